@@ -1,0 +1,38 @@
+-- The sets of strings: they have members, all in range, and depend on the leaves' sets alone.
+use mathlib.Core.Path.{_≡_, refl, sym, ap, ap₂, _∙_}
+use mathlib.Core.Bool.{Bool, true, false}
+use mathlib.Core.Logic.{_⊎_, inl, inr}
+use mathlib.Core.List.{List, [], _∷_, _++_}
+use Prim.Native.Nat.{ℕ, zero, suc, _+_}
+use lib.ListN.{length}
+use Rattle.theory.specs.Bits.{Bits}
+use Rattle.theory.specs.Hops.{Hops, join, Allowed}
+use Rattle.theory.specs.Theorem.{AllAllowed}
+use Rattle.theory.specs.Smallest.{Leaves, half, setOf, choose, entry, here, table}
+use Rattle.theory.proofs.Hops.{join-allowed, by-test, least-member}
+
+pub half-allowed : {n w : ℕ} {F : Leaves} (b : Bool) → AllAllowed n (suc w) F → AllAllowed n w (half b F)
+half-allowed b ok a e = ok (b ∷ a) (ap suc e)
+
+pub set-allowed : (n w : ℕ) (F : Leaves) → AllAllowed n w F → Allowed n (setOf n w F)
+set-allowed n zero F ok = ok [] refl
+set-allowed n (suc w) F ok =
+    join-allowed n _ _ (set-allowed n w (half false F) (half-allowed false ok)) (set-allowed n w (half true F) (half-allowed true ok))
+
+-- The hop in force from a string on is in the string's set.
+pub choose-member : (n : ℕ) (x : Hops) (d : ℕ) → Allowed n x → x (choose n x d) ≡ true
+choose-member n x d ok = elim (by-test (x d)) [ inl e ↦ rw e e | inr e ↦ rw e (least-member n x (ok .member)) ]
+
+-- The sets, and with them the table, depend on the leaves of w bits alone.
+pub set-of-leaves : (n w : ℕ) (F G : Leaves) → ((a : Bits) → length a ≡ w → F a ≡ G a) → setOf n w F ≡ setOf n w G
+set-of-leaves n zero F G h = h [] refl
+set-of-leaves n (suc w) F G h =
+    ap₂ (join n) (set-of-leaves n w (half false F) (half false G) (λ a e. h (false ∷ a) (ap suc e)))
+    (set-of-leaves n w (half true F) (half true G) (λ a e. h (true ∷ a) (ap suc e)))
+
+pub table-of-leaves : (n w : ℕ) (F G : Leaves) (d : ℕ) → ((a : Bits) → length a ≡ w → F a ≡ G a) → table n w F d ≡ table n w G d
+table-of-leaves n zero F G d h = ap (λ x. here (entry n x d)) (h [] refl)
+table-of-leaves n (suc w) F G d h =
+    let e = set-of-leaves n (suc w) F G h in
+    rw (e, table-of-leaves n w (half false F) (half false G) _ (λ a l. h (false ∷ a) (ap suc l)),
+        table-of-leaves n w (half true F) (half true G) _ (λ a l. h (true ∷ a) (ap suc l)))
