@@ -79,7 +79,7 @@ table-down n w F d b a =
     ∙ ap₂ (λ t h. longest (load t) h a) (after-parts o es fs b ∙ halves b)
     (ap (λ v. orElse v d) (top-parts o es fs) ∙ entry-choose n (setOf n (suc w) F) d)
 
-top-here : (o : Option ℕ) → load (here o) [] ≡ o
+pub top-here : (o : Option ℕ) → load (here o) [] ≡ o
 top-here none = refl
 top-here (some h) = refl
 

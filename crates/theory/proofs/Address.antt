@@ -1,0 +1,72 @@
+-- Strings and numbers: a string of w bits is the number of its address, and the other way round.
+use mathlib.Core.Path.{_≡_, refl, sym, ap, ap₂, _∙_, subst}
+use mathlib.Core.Bool.{Bool, true, false, cond}
+use mathlib.Core.List.{List, [], _∷_, _++_}
+use Prim.Native.Nat.{ℕ, zero, suc, _+_, _-_, _*_, _/_, _%_, _^_, _≤_, _<_}
+use native.Mathlib.Omega.{arith}
+use native.Mathlib.Nat.{suc-inj, zero-mod, zero-add, add-comm, one-mul, le-refl, add-mul-mod-self-right, suc-sub-suc, two-pow-succ, mul-assoc, mul-right-comm, pow-suc, add-mul-div-right, div-eq-of-lt, add-div-left}
+use lib.ListN.{length, take}
+use lib.Pow.{pow-pos, pow-add}
+use lib.Dec.{eqb}
+use borrow.Author.Tests.{eq-eqb, ne-eqb, eqb-true}
+use Rattle.theory.specs.Bits.{Bits, bitsOf, addressOf}
+
+pub address-below : (w : ℕ) (s : Bits) → addressOf w s < 2 ^ w
+address-below zero s = omega arith
+address-below (suc w) [] = pow-pos (suc w)
+address-below (suc w) (true ∷ s) = let h = address-below w s in omega (arith, two-pow-succ w)
+address-below (suc w) (false ∷ s) = let h = address-below w s in omega (arith, two-pow-succ w)
+
+-- 2 ^ w is a multiple of 2 ^ v where v is at most w
+pow-multiple : (w v : ℕ) → v ≤ w → 2 ^ w ≡ 2 ^ (w - v) * 2 ^ v
+pow-multiple w v l = ap (λ k. 2 ^ k) (omega arith) ∙ pow-add 2 (w - v) v
+
+-- the bits behind a prefix's length are zero in its address
+pub address-tail : (w : ℕ) (s : Bits) → length s ≤ w → addressOf w s % 2 ^ (w - length s) ≡ 0
+address-tail zero [] l = refl
+address-tail zero (b ∷ s) l = absurd (omega arith)
+address-tail (suc w) [] l = zero-mod (2 ^ (suc w - 0))
+address-tail (suc w) (false ∷ s) l = rw (suc-sub-suc w (length s), zero-add) (address-tail w s (omega arith))
+address-tail (suc w) (true ∷ s) l =
+    let m = pow-multiple w (w - length s) (omega arith) in
+    rw (suc-sub-suc w (length s), add-comm (2 ^ w) (addressOf w s))
+    (ap (λ k. (addressOf w s + k) % 2 ^ (w - length s)) m
+    ∙ add-mul-mod-self-right (addressOf w s) (2 ^ (w - (w - length s))) (2 ^ (w - length s))
+    ∙ address-tail w s (omega arith))
+
+pub bits-length : (w x : ℕ) → length (bitsOf w x) ≡ w
+bits-length zero x = refl
+bits-length (suc w) x = ap suc (bits-length w x)
+
+shuffle : (k p q : ℕ) {r : ℕ} → r ≡ q * 2 → k * (p * r) ≡ (k * p * 2) * q
+shuffle k p q e = rw e (ap (λ m. k * m) (sym (mul-assoc p q 2)) ∙ ap (λ m. k * m) (mul-right-comm p q 2) ∙ sym (mul-assoc k (p * 2) q) ∙ ap (λ m. m * q) (sym (mul-assoc k p 2)))
+
+-- the bit of weight 2 ^ w does not see what is added at 2 ^ v above it
+bit-add : (w v k r : ℕ) → w < v → (r + k * 2 ^ v) / 2 ^ w % 2 ≡ r / 2 ^ w % 2
+bit-add w v k r l =
+    let j = v - suc w in
+    let e : k * 2 ^ v ≡ (k * 2 ^ j * 2) * 2 ^ w =
+          ap (λ i. k * 2 ^ i) (omega arith) ∙ ap (λ p. k * p) (pow-add 2 j (suc w)) ∙ shuffle k (2 ^ j) (2 ^ w) (pow-suc 2 w) in
+    ap (λ p. (r + p) / 2 ^ w % 2) e
+    ∙ ap (λ q. q % 2) (add-mul-div-right r (k * 2 ^ j * 2) (pow-pos w))
+    ∙ add-mul-mod-self-right (r / 2 ^ w) (k * 2 ^ j) 2
+
+-- so a number's w low bits do not see what is added at 2 ^ v, v at least w
+pub bits-add : (w v k r : ℕ) → w ≤ v → bitsOf w (r + k * 2 ^ v) ≡ bitsOf w r
+bits-add zero v k r l = refl
+bits-add (suc w) v k r l = ap₂ (λ q t. eqb q 1 ∷ t) (bit-add w v k r l) (bits-add w v k r (omega arith))
+
+-- the top bit of a number below 2 ^ suc w
+top-bit : (w : ℕ) (b : Bool) (r : ℕ) → r < 2 ^ w → eqb ((cond b (2 ^ w) 0 + r) / 2 ^ w % 2) 1 ≡ b
+top-bit w false r l = ap (λ q. eqb (q % 2) 1) (ap (λ k. k / 2 ^ w) (zero-add r) ∙ div-eq-of-lt l)
+top-bit w true r l = ap (λ q. eqb (q % 2) 1) (add-div-left r (pow-pos w) ∙ ap (λ k. k + 1) (div-eq-of-lt l))
+
+pub bits-address : (w : ℕ) (a : Bits) → length a ≡ w → bitsOf w (addressOf w a) ≡ a
+bits-address zero [] e = refl
+bits-address zero (b ∷ a) e = absurd (omega arith)
+bits-address (suc w) [] e = absurd (omega arith)
+bits-address (suc w) (b ∷ a) e = ap₂ _∷_ (top-bit w b (addressOf w a) (address-below w a)) (low b ∙ bits-address w a (suc-inj e))
+  where
+    low : (b : Bool) → bitsOf w (cond b (2 ^ w) 0 + addressOf w a) ≡ bitsOf w (addressOf w a)
+    low false = rw zero-add
+    low true = rw add-comm (rw (← one-mul (2 ^ w)) (bits-add w w 1 (addressOf w a) (le-refl w)))
