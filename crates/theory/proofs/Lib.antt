@@ -6,3 +6,7 @@ pub mod Fewest
 pub mod Address
 pub mod Order
 pub mod Reload
+pub mod Strings
+pub mod Rules
+pub mod Held
+pub mod Theorem

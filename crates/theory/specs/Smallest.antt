@@ -6,7 +6,7 @@ use mathlib.Core.Option.{Option, none, some}
 use Prim.Native.Nat.{ℕ, zero, suc, _-_}
 use lib.ListN.{length}
 use Rattle.theory.specs.Bits.{Bits}
-use Rattle.theory.specs.Ledger.{Entry, _via_}
+use Rattle.theory.specs.Ledger.{Ledger, Entry, _via_, line}
 use Rattle.theory.specs.Hops.{Hops, join, least}
 
 abbrev pub Leaves : Type 0
@@ -40,10 +40,9 @@ move b (s via h) = (b ∷ s) via h
 abbrev pub under : Bool → List Entry → List Entry
 under b es = map (move b) es
 
--- an entry for the empty string, or none
+-- the empty string's entry, or none
 abbrev pub here : Option ℕ → List Entry
-here none = []
-here (some h) = [] via h ∷ []
+here o = line [] o
 
 -- THE TABLE: the string's own entry, then those below its 0, then those below its 1; so by address and then by length
 abbrev pub table : ℕ → ℕ → Leaves → ℕ → List Entry

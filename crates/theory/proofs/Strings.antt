@@ -1,0 +1,78 @@
+-- Counting over all strings: each string of at most w bits stands once in `strings w`, and a count over them is taken apart
+-- at the first bit.
+use mathlib.Core.Path.{_≡_, refl, sym, ap, ap₂, _∙_, subst, fun-ext}
+use mathlib.Core.Bool.{Bool, true, false, cond, Bool·beq, _&&_}
+use mathlib.Core.List.{List, [], _∷_, _++_, map, append-assoc}
+use Prim.Native.Nat.{ℕ, zero, suc, _+_, _≤_, _<_}
+use native.Mathlib.Omega.{arith}
+use native.Mathlib.Nat.{add-assoc}
+use lib.ListN.{length}
+use mathlib.Core.Option.{Option, none, some}
+use Rattle.theory.specs.Bits.{Bits, same, strings, count, some-of}
+use Rattle.theory.specs.Ledger.{Ledger, Entry, _via_, below, line, lines, routes}
+use Rattle.theory.specs.Smallest.{move, under}
+
+module _ {A : Type 0} (p : A → Bool) where
+  pub count-append : (xs ys : List A) → count p (xs ++ ys) ≡ count p xs + count p ys
+  count-append [] ys = omega arith
+  count-append (x ∷ xs) ys = ap (λ k. cond (p x) 1 0 + k) (count-append xs ys) ∙ sym (add-assoc (cond (p x) 1 0) (count p xs) (count p ys))
+
+pub count-map : {A B : Type 0} (p : B → Bool) (f : A → B) (xs : List A) → count p (map f xs) ≡ count (λ x. p (f x)) xs
+count-map p f [] = refl
+count-map p f (x ∷ xs) = ap (λ k. cond (p (f x)) 1 0 + k) (count-map p f xs)
+
+-- a count over all strings, one bit down
+pub count-down : (p : Bits → Bool) (w : ℕ)
+  → count p (strings (suc w)) ≡ cond (p []) 1 0 + (count (λ s. p (false ∷ s)) (strings w) + count (λ s. p (true ∷ s)) (strings w))
+count-down p w =
+    ap (λ k. cond (p []) 1 0 + k)
+    (count-append p (map (λ s. false ∷ s) (strings w)) (map (λ s. true ∷ s) (strings w))
+    ∙ ap₂ _+_ (count-map p (λ s. false ∷ s) (strings w)) (count-map p (λ s. true ∷ s) (strings w)))
+
+none-count : {A : Type 0} (xs : List A) → count (λ x. false) xs ≡ 0
+none-count [] = refl
+none-count (x ∷ xs) = let r = none-count xs in omega arith
+
+-- each string of at most w bits stands in the list once, and no longer one does
+pub strings-once : (w : ℕ) (s : Bits) → length s ≤ w → count (same s) (strings w) ≡ 1
+strings-once zero [] l = refl
+strings-once zero (b ∷ s) l = absurd (omega arith)
+strings-once (suc w) [] l = count-down (same []) w ∙ omega (arith, none-count (strings w))
+strings-once (suc w) (true ∷ s) l =
+    count-down (same (true ∷ s)) w ∙ omega (arith, none-count (strings w), strings-once w s (omega arith))
+strings-once (suc w) (false ∷ s) l =
+    count-down (same (false ∷ s)) w ∙ omega (arith, none-count (strings w), strings-once w s (omega arith))
+
+pub strings-no-longer : (w : ℕ) (s : Bits) → w < length s → count (same s) (strings w) ≡ 0
+strings-no-longer zero [] l = absurd (omega arith)
+strings-no-longer zero (b ∷ s) l = refl
+strings-no-longer (suc w) [] l = absurd (omega arith)
+strings-no-longer (suc w) (true ∷ s) l =
+    count-down (same (true ∷ s)) w ∙ omega (arith, none-count (strings w), strings-no-longer w s (omega arith))
+strings-no-longer (suc w) (false ∷ s) l =
+    count-down (same (false ∷ s)) w ∙ omega (arith, none-count (strings w), strings-no-longer w s (omega arith))
+
+-- the routes of a ledger, one bit down
+pub under-append : (b : Bool) (xs ys : List Entry) → under b (xs ++ ys) ≡ under b xs ++ under b ys
+under-append b [] ys = refl
+under-append b (x ∷ xs) ys = ap (λ t. move b x ∷ t) (under-append b xs ys)
+
+lines-append : (L : Ledger ℕ) (ss ts : List Bits) → lines L (ss ++ ts) ≡ lines L ss ++ lines L ts
+lines-append L [] ts = refl
+lines-append L (s ∷ ss) ts = ap (λ t. line s (L s) ++ t) (lines-append L ss ts) ∙ sym (append-assoc (line s (L s)) (lines L ss) (lines L ts))
+
+line-under : (b : Bool) (s : Bits) (o : Option ℕ) → line (b ∷ s) o ≡ under b (line s o)
+line-under b s none = refl
+line-under b s (some h) = refl
+
+lines-under : (b : Bool) (L : Ledger ℕ) (ss : List Bits) → lines L (map (λ s. b ∷ s) ss) ≡ under b (lines (below b L) ss)
+lines-under b L [] = refl
+lines-under b L (s ∷ ss) =
+    ap₂ _++_ (line-under b s (L (b ∷ s))) (lines-under b L ss) ∙ sym (under-append b (line s (L (b ∷ s))) (lines (below b L) ss))
+
+pub routes-down : (w : ℕ) (L : Ledger ℕ)
+  → routes (suc w) L ≡ line [] (L []) ++ (under false (routes w (below false L)) ++ under true (routes w (below true L)))
+routes-down w L =
+    ap (λ t. line [] (L []) ++ t)
+    (lines-append L (map (λ s. false ∷ s) (strings w)) (map (λ s. true ∷ s) (strings w))
+    ∙ ap₂ _++_ (lines-under false L (strings w)) (lines-under true L (strings w)))
