@@ -8,7 +8,7 @@ use Prim.Native.Nat.{ℕ, zero, suc, _+_, _<_, _≤_}
 use native.Mathlib.Omega.{arith}
 use lib.ListN.{length, take}
 use Rattle.theory.specs.Bits.{Bits, same}
-use Rattle.theory.specs.Ledger.{Ledger, Entry, _via_, orElse, nothing, announce, below, longest, loadOnto, load}
+use Rattle.theory.specs.Ledger.{Ledger, Entry, _via_, orElse, nothing, announce, below, longest, loadOnto, load, Found, Missed, IsLongest}
 
 -- Longest match reads no string longer than the address.
 pub longest-upto : {A : Type 0} (L M : Ledger A) (d : A) (a : Bits) → ((s : Bits) → length s ≤ length a → L s ≡ M s)
@@ -56,3 +56,69 @@ load-top L ((b ∷ p) via h ∷ es) = load-top (announce L (b ∷ p) h) es
 pub lookup-down : (es : List Entry) (d : ℕ) (b : Bool) (a : Bits)
   → longest (load es) d (b ∷ a) ≡ longest (load (after b es)) (orElse (load es []) d) a
 lookup-down es d b a = ap (λ L. longest L (orElse (load es []) d) a) (below-load b nothing es)
+
+-- LONGEST MATCH IN DOCUMENT 01'S WORDS: the definition answers so, ..
+none-some : {A B : Type 0} {x : A} {o : Option A} → o ≡ some x → o ≡ none → B
+none-some p q = absurd (let z : _≡_ {A = ℕ} 0 1 = cc in omega arith)
+
+same-some : {A : Type 0} {x y : A} → some x ≡ some y → x ≡ y
+same-some {x} {y} e = cc
+
+order : (i j : ℕ) → (i < j) ⊎ ((j < i) ⊎ (i ≡ j))
+order zero zero = inr (inr refl)
+order zero (suc j) = inl (omega arith)
+order (suc i) zero = inr (inl (omega arith))
+order (suc i) (suc j) = elim (order i j) [ inl l ↦ inl (omega arith) | inr (inl l) ↦ inr (inl (omega arith)) | inr (inr e) ↦ inr (inr (ap suc e)) ]
+
+module _ {A : Type 0} where
+  longest-end : (L : Ledger A) (d : A) (o : Option A) → L [] ≡ o → IsLongest L d [] (orElse o d)
+  longest-end L d none e = inr record { none-begins = none-begins; default = refl }
+    where
+      none-begins : (k : ℕ) → k ≤ 0 → L (take k []) ≡ none
+      none-begins zero l = e
+      none-begins (suc k) l = absurd (omega arith)
+  longest-end L d (some x) e = inl record { size = 0; begins = omega arith; holds = e; no-longer = λ k p q. absurd (omega arith) }
+
+  longest-step : (L : Ledger A) (d : A) (b : Bool) (a : Bits) (o : Option A) → L [] ≡ o → (x : A)
+    → IsLongest (below b L) (orElse o d) a x → IsLongest L d (b ∷ a) x
+  longest-step L d b a o e x (inl f) = inl record {
+    size = suc (f .size);
+    begins = omega (arith, f .begins);
+    holds = f .holds;
+    no-longer = longer }
+    where
+      longer : (k : ℕ) → suc (f .size) < k → k ≤ suc (length a) → L (take k (b ∷ a)) ≡ none
+      longer zero p q = absurd (omega arith)
+      longer (suc k) p q = f .no-longer k (omega arith) (omega arith)
+  longest-step L d b a none e x (inr m) = inr record { none-begins = none-begins; default = m .default }
+    where
+      none-begins : (k : ℕ) → k ≤ suc (length a) → L (take k (b ∷ a)) ≡ none
+      none-begins zero l = e
+      none-begins (suc k) l = m .none-begins k (omega arith)
+  longest-step L d b a (some y) e x (inr m) = inl record {
+    size = 0;
+    begins = omega arith;
+    holds = e ∙ ap some (sym (m .default));
+    no-longer = longer }
+    where
+      longer : (k : ℕ) → 0 < k → k ≤ suc (length a) → L (take k (b ∷ a)) ≡ none
+      longer zero p q = absurd (omega arith)
+      longer (suc k) p q = m .none-begins k (omega arith)
+
+  pub longest-is : (L : Ledger A) (d : A) (a : Bits) → IsLongest L d a (longest L d a)
+  longest-is L d [] = longest-end L d (L []) refl
+  longest-is L d (b ∷ a) = longest-step L d b a (L []) refl _ (longest-is (below b L) (orElse (L []) d) a)
+
+  -- .. and nothing else does
+  one-longest : (L : Ledger A) (d : A) (a : Bits) (x y : A) → IsLongest L d a x → IsLongest L d a y → x ≡ y
+  one-longest L d a x y (inl f) (inl g) =
+    elim (order (f .size) (g .size)) [
+    inl l ↦ none-some (g .holds) (f .no-longer (g .size) l (g .begins))
+    | inr (inl l) ↦ none-some (f .holds) (g .no-longer (f .size) l (f .begins))
+    | inr (inr e) ↦ same-some (sym (f .holds) ∙ ap (λ k. L (take k a)) e ∙ g .holds) ]
+  one-longest L d a x y (inl f) (inr m) = none-some (f .holds) (m .none-begins (f .size) (f .begins))
+  one-longest L d a x y (inr m) (inl g) = none-some (g .holds) (m .none-begins (g .size) (g .begins))
+  one-longest L d a x y (inr m) (inr k) = m .default ∙ sym (k .default)
+
+  pub longest-only : (L : Ledger A) (d : A) (a : Bits) (x : A) → IsLongest L d a x → x ≡ longest L d a
+  longest-only L d a x i = one-longest L d a x _ i (longest-is L d a)

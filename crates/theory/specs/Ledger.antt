@@ -64,6 +64,11 @@ module _ {A : Type 0} where
   abbrev pub held : ℕ → Ledger A → ℕ
   held w L = count (λ s. isHeld (L s)) (strings w)
 
+  -- a ledger of hops out of a ledger of anything that a hop is picked from
+  abbrev pub picked : (A → ℕ) → Option A → Option ℕ
+  picked f none = none
+  picked f (some x) = some (f x)
+
 -- an entry of a table: this prefix goes to that hop
 pub data Entry : Type 0 where
   _via_ : Bits → ℕ → Entry

@@ -6,9 +6,13 @@ use mathlib.Core.List.{List, [], _∷_}
 use Prim.Native.Nat.{ℕ, _≤_, _<_, _%_, _^_, _-_}
 use lib.ListN.{length}
 use Rattle.theory.specs.Bits.{Bits, addressOf, Each}
-use Rattle.theory.specs.Ledger.{Entry, _via_, longest, load}
-use Rattle.theory.specs.Hops.{Allowed}
+use Rattle.theory.specs.Ledger.{Ledger, Entry, _via_, longest, load}
+use Rattle.theory.specs.Hops.{Hops, Allowed}
 use Rattle.theory.specs.Smallest.{Leaves}
+
+-- the leaves of a ledger: an address is allowed the hops of what longest match gives it
+abbrev pub leaves : {A : Type 0} → (A → Hops) → Ledger A → A → Leaves
+leaves sets L d a = sets (longest L d a)
 
 -- every address of w bits has a set with a member, and all its members below n
 abbrev pub AllAllowed : ℕ → ℕ → Leaves → Type 0
