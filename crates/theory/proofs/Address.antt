@@ -61,12 +61,24 @@ top-bit : (w : ℕ) (b : Bool) (r : ℕ) → r < 2 ^ w → eqb ((cond b (2 ^ w) 
 top-bit w false r l = ap (λ q. eqb (q % 2) 1) (ap (λ k. k / 2 ^ w) (zero-add r) ∙ div-eq-of-lt l)
 top-bit w true r l = ap (λ q. eqb (q % 2) 1) (add-div-left r (pow-pos w) ∙ ap (λ k. k + 1) (div-eq-of-lt l))
 
+-- the bits of a prefix's address, one bit down
+bits-down : (w : ℕ) (b : Bool) (s : Bits) → bitsOf (suc w) (addressOf (suc w) (b ∷ s)) ≡ b ∷ bitsOf w (addressOf w s)
+bits-down w b s = ap₂ _∷_ (top-bit w b (addressOf w s) (address-below w s)) (low b)
+  where
+    low : (b : Bool) → bitsOf w (cond b (2 ^ w) 0 + addressOf w s) ≡ bitsOf w (addressOf w s)
+    low false = rw zero-add
+    low true = rw add-comm (rw (← one-mul (2 ^ w)) (bits-add w w 1 (addressOf w s) (le-refl w)))
+
+-- a prefix is the first bits of its address ..
+pub prefix-of-address : (w : ℕ) (s : Bits) → length s ≤ w → take (length s) (bitsOf w (addressOf w s)) ≡ s
+prefix-of-address zero [] l = refl
+prefix-of-address zero (b ∷ s) l = absurd (omega arith)
+prefix-of-address (suc w) [] l = refl
+prefix-of-address (suc w) (b ∷ s) l = ap (take (suc (length s))) (bits-down w b s) ∙ ap (λ t. b ∷ t) (prefix-of-address w s (omega arith))
+
+-- .. and a full string all of them
 pub bits-address : (w : ℕ) (a : Bits) → length a ≡ w → bitsOf w (addressOf w a) ≡ a
 bits-address zero [] e = refl
 bits-address zero (b ∷ a) e = absurd (omega arith)
 bits-address (suc w) [] e = absurd (omega arith)
-bits-address (suc w) (b ∷ a) e = ap₂ _∷_ (top-bit w b (addressOf w a) (address-below w a)) (low b ∙ bits-address w a (suc-inj e))
-  where
-    low : (b : Bool) → bitsOf w (cond b (2 ^ w) 0 + addressOf w a) ≡ bitsOf w (addressOf w a)
-    low false = rw zero-add
-    low true = rw add-comm (rw (← one-mul (2 ^ w)) (bits-add w w 1 (addressOf w a) (le-refl w)))
+bits-address (suc w) (b ∷ a) e = bits-down w b a ∙ ap (λ t. b ∷ t) (bits-address w a (suc-inj e))

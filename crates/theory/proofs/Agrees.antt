@@ -90,3 +90,10 @@ table-agrees n zero F d ok (b ∷ a) e = absurd (omega arith)
 table-agrees n (suc w) F d ok [] e = absurd (omega arith)
 table-agrees n (suc w) F d ok (b ∷ a) e =
     rw (table-down n w F d b a) (table-agrees n w (half b F) _ (half-allowed b ok) a (suc-inj e))
+
+-- The table's entry for the empty string.
+pub table-top : (n w : ℕ) (F : Leaves) (d : ℕ) → load (table n w F d) [] ≡ entry n (setOf n w F) d
+table-top n zero F d = top-here (entry n (F []) d)
+table-top n (suc w) F d =
+    let c = choose n (setOf n (suc w) F) d in
+    top-parts (entry n (setOf n (suc w) F) d) (table n w (half false F) c) (table n w (half true F) c)

@@ -1,7 +1,7 @@
 -- Laws of sets of hops: members, the least one, and what a join holds.
 use mathlib.Core.Path.{_≡_, refl, sym, ap, _∙_, subst, fun-ext}
 use mathlib.Core.Logic.{_⊎_, inl, inr, ⊎-elim}
-use mathlib.Core.Bool.{Bool, true, false, cond, _&&_, _||_, true≢false}
+use mathlib.Core.Bool.{Bool, true, false, cond, _&&_, _||_, true≢false, and-self, or-self}
 use Prim.Native.Nat.{ℕ, zero, suc, _<_, _≤_}
 use native.Mathlib.Omega.{arith}
 use borrow.Author.Tests.{eqb-true, eq-eqb}
@@ -87,3 +87,13 @@ module _ (n : ℕ) (x y : Hops) where
     | inr e ↦ rw (join-apart e) record {
       member = some-below-of n (union x y) (least n x) (least-below n x (p .member)) (rw (least-member n x (p .member)));
       bounded = λ k f. ⊎-elim (p .bounded k) (q .bounded k) (or-either (x k) (y k) f) } ]
+
+  pub join-avoids : (h : ℕ) → x h ≡ false → y h ≡ false → join n x y h ≡ false
+  join-avoids h p q =
+    elim (by-test (some-below n (common x y))) [ inl e ↦ rw (join-meets e, p) | inr e ↦ rw (join-apart e, p, q) ]
+
+  pub join-same : x ≡ y → join n x y ≡ x
+  join-same e =
+    elim (by-test (some-below n (common x y))) [
+    inl m ↦ join-meets m ∙ rw (← e) (fun-ext (λ k. and-self (x k)))
+    | inr m ↦ join-apart m ∙ rw (← e) (fun-ext (λ k. or-self (x k))) ]

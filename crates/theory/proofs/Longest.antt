@@ -17,6 +17,21 @@ longest-upto L M d [] h = rw (h [] (omega arith))
 longest-upto L M d (b ∷ a) h =
     rw (h [] (omega arith)) (longest-upto (below b L) (below b M) _ a (λ s l. h (b ∷ s) (omega arith)))
 
+-- What longest match gives was held, or in force at first.
+module _ {A : Type 0} (P : A → Type 0) where
+  else-keeps : (o : Option A) (d : A) → ((x : A) → o ≡ some x → P x) → P d → P (orElse o d)
+  else-keeps none d h p = p
+  else-keeps (some x) d h p = h x refl
+
+  pub longest-keeps : (L : Ledger A) (d : A) → ((s : Bits) (x : A) → L s ≡ some x → P x) → P d → (a : Bits) → P (longest L d a)
+  longest-keeps L d h p [] = else-keeps (L []) d (h []) p
+  longest-keeps L d h p (b ∷ a) = longest-keeps (below b L) (orElse (L []) d) (λ s. h (b ∷ s)) (else-keeps (L []) d (h []) p) a
+
+-- Where the empty string is held, what was in force above it does not matter.
+pub longest-default : {A : Type 0} (L : Ledger A) (x d : A) → L [] ≡ some x → (a : Bits) → longest L d a ≡ longest L x a
+longest-default L x d e [] = rw e
+longest-default L x d e (b ∷ a) = rw e
+
 -- The entries of a list behind a first bit, and how many stand at the empty string.
 abbrev pub after : Bool → List Entry → List Entry
 after b [] = []

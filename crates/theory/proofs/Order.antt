@@ -3,7 +3,7 @@ use mathlib.Core.Path.{_≡_, refl, sym, ap, ap₂, _∙_, subst}
 use mathlib.Core.Bool.{Bool, true, false, cond}
 use mathlib.Core.List.{List, [], _∷_, _++_}
 use mathlib.Core.Option.{Option, none, some}
-use mathlib.Core.Logic.{_⊎_, inl, inr, ⊎-elim, ⊎-map}
+use mathlib.Core.Logic.{_⊎_, inl, inr, ⊎-elim, ⊎-map, _≢_}
 use Prim.Native.Nat.{ℕ, zero, suc, _+_, _≤_, _<_, _^_}
 use native.Mathlib.Omega.{arith}
 use lib.ListN.{length}
@@ -13,8 +13,8 @@ use Rattle.theory.specs.Hops.{Hops, Allowed, least}
 use Rattle.theory.specs.Ledger.{Entry, _via_}
 use Rattle.theory.specs.Smallest.{Leaves, half, setOf, choose, entry, here, under, move, table}
 use Rattle.theory.specs.Theorem.{AllAllowed, Before, Sorted, Proper}
-use Rattle.theory.proofs.Hops.{by-test, least-below}
-use Rattle.theory.proofs.Sets.{half-allowed, set-allowed}
+use Rattle.theory.proofs.Hops.{by-test, never, least-below, least-member}
+use Rattle.theory.proofs.Sets.{half-allowed, set-allowed, set-avoids}
 use Rattle.theory.proofs.Address.{address-below, address-tail}
 
 -- Each, over a list's parts.
@@ -106,3 +106,30 @@ proper n (suc w) F d ok =
     (each-append Q (under false es) (under true fs)
     (each-under P Q false (proper-move n w false) es (proper n w (half false F) (choose n (setOf n (suc w) F) d) (half-allowed false ok)))
     (each-under P Q true (proper-move n w true) fs (proper n w (half true F) (choose n (setOf n (suc w) F) d) (half-allowed true ok))))
+
+-- No entry has a hop that no leaf allows.
+abbrev pub HopNot : ℕ → Entry → Type 0
+HopNot h (s via g) = g ≢ h
+
+avoids-here : (n h : ℕ) (x : Hops) (d : ℕ) → Allowed n x → x h ≡ false → Each (HopNot h) (here (entry n x d))
+avoids-here n h x d ok out =
+    elim (by-test (x d)) [ inl e ↦ rw e tt
+    | inr e ↦ rw e ((λ q. never (least-member n x (ok .member)) (ap x q ∙ out)), tt) ]
+
+avoids-move : (h : ℕ) (b : Bool) (e : Entry) → HopNot h e → HopNot h (move b e)
+avoids-move h b (s via g) p = p
+
+pub avoids : (n w : ℕ) (F : Leaves) (d h : ℕ) → AllAllowed n w F → ((a : Bits) → length a ≡ w → F a h ≡ false)
+  → Each (HopNot h) (table n w F d)
+avoids n zero F d h ok out = avoids-here n h (F []) d (ok [] refl) (out [] refl)
+avoids n (suc w) F d h ok out =
+    let P = HopNot h in
+    let s = setOf n (suc w) F in
+    let c = choose n s d in
+    let es = table n w (half false F) c in
+    let fs = table n w (half true F) c in
+    each-append P (here (entry n s d)) (under false es ++ under true fs)
+    (avoids-here n h s d (set-allowed n (suc w) F ok) (set-avoids n (suc w) F h out))
+    (each-append P (under false es) (under true fs)
+    (each-under P P false (avoids-move h false) es (avoids n w (half false F) c h (half-allowed false ok) (λ a e. out (false ∷ a) (ap suc e))))
+    (each-under P P true (avoids-move h true) fs (avoids n w (half true F) c h (half-allowed true ok) (λ a e. out (true ∷ a) (ap suc e)))))

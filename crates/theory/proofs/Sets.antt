@@ -9,7 +9,7 @@ use Rattle.theory.specs.Bits.{Bits}
 use Rattle.theory.specs.Hops.{Hops, join, Allowed}
 use Rattle.theory.specs.Theorem.{AllAllowed}
 use Rattle.theory.specs.Smallest.{Leaves, half, setOf, choose, entry, here, table}
-use Rattle.theory.proofs.Hops.{join-allowed, by-test, least-member}
+use Rattle.theory.proofs.Hops.{join-allowed, join-avoids, by-test, least-member}
 
 pub half-allowed : {n w : ℕ} {F : Leaves} (b : Bool) → AllAllowed n (suc w) F → AllAllowed n w (half b F)
 half-allowed b ok a e = ok (b ∷ a) (ap suc e)
@@ -18,6 +18,13 @@ pub set-allowed : (n w : ℕ) (F : Leaves) → AllAllowed n w F → Allowed n (s
 set-allowed n zero F ok = ok [] refl
 set-allowed n (suc w) F ok =
     join-allowed n _ _ (set-allowed n w (half false F) (half-allowed false ok)) (set-allowed n w (half true F) (half-allowed true ok))
+
+-- A hop that no leaf allows is in no set.
+pub set-avoids : (n w : ℕ) (F : Leaves) (h : ℕ) → ((a : Bits) → length a ≡ w → F a h ≡ false) → setOf n w F h ≡ false
+set-avoids n zero F h out = out [] refl
+set-avoids n (suc w) F h out =
+    join-avoids n _ _ h (set-avoids n w (half false F) h (λ a e. out (false ∷ a) (ap suc e)))
+    (set-avoids n w (half true F) h (λ a e. out (true ∷ a) (ap suc e)))
 
 -- The hop in force from a string on is in the string's set.
 pub choose-member : (n : ℕ) (x : Hops) (d : ℕ) → Allowed n x → x (choose n x d) ≡ true

@@ -1,0 +1,74 @@
+-- The numbers that document 01 fixes, each in this one place.
+use Prim.Native.Nat.{ℕ, _+_, _*_}
+
+-- An address of IPv4 has 4 bytes. Whatever is said of records is said over the number k of an address's bytes.
+abbrev pub ipv4 : ℕ
+ipv4 = 4
+
+abbrev pub width : ℕ → ℕ
+width k = 8 * k
+
+-- a record: the address, then length, action and two bytes of hop
+abbrev pub recordBytes : ℕ → ℕ
+recordBytes k = k + 4
+
+abbrev pub announceAction : ℕ
+announceAction = 1
+
+abbrev pub withdrawAction : ℕ
+withdrawAction = 2
+
+-- hops that may be announced, and the bound of the theorem: every hop is below it
+abbrev pub lowestHop : ℕ
+lowestHop = 1
+
+abbrev pub highestHop : ℕ
+highestHop = 64
+
+abbrev pub hopBound : ℕ
+hopBound = highestHop + 1
+
+-- no route: the answer of a lookup, and what is in force above the empty string
+abbrev pub noRoute : ℕ
+noRoute = 0
+
+-- the most slots that may be lent
+abbrev pub mostSlots : ℕ
+mostSlots = 65536
+
+-- The refusals, by the paper's numbers.
+abbrev pub badSlices : ℕ
+badSlices = 1
+
+abbrev pub noLedger : ℕ
+noLedger = 2
+
+abbrev pub badListLength : ℕ
+badListLength = 3
+
+abbrev pub badPrefixLength : ℕ
+badPrefixLength = 4
+
+abbrev pub strayBit : ℕ
+strayBit = 5
+
+abbrev pub badAction : ℕ
+badAction = 6
+
+abbrev pub badHop : ℕ
+badHop = 7
+
+abbrev pub notHeld : ℕ
+notHeld = 8
+
+abbrev pub noSlots : ℕ
+noSlots = 9
+
+abbrev pub noDefault : ℕ
+noDefault = 10
+
+abbrev pub shortOutput : ℕ
+shortOutput = 11
+
+abbrev pub longInput : ℕ
+longInput = 12

@@ -1,0 +1,111 @@
+-- THE PLAIN LEDGER: what a batch of records does to what is held, and what a list that is looked up answers.
+use mathlib.Core.Path.{_≡_}
+use mathlib.Core.Bool.{Bool, true, false, cond, _||_}
+use mathlib.Core.List.{List, [], _∷_, _++_}
+use mathlib.Core.Option.{Option, none, some}
+use Prim.Native.Nat.{ℕ, zero, suc, _-_, _≤_}
+use lib.Dec.{leb}
+use lib.ListN.{length}
+use Rattle.theory.specs.Bits.{Bits, bitsOf, strings, count, some-of}
+use Rattle.theory.specs.Ledger.{Ledger, Entry, _via_, isHeld, announce, withdraw, longest, load}
+use Rattle.rules.specs.Numbers.{width, lowestHop, highestHop, noRoute, badListLength, badAction, notHeld, noSlots}
+use mathlib.Core.List.{map}
+use Rattle.rules.specs.Records.{Change, announces, withdraws, Use, update, lookup, Reading, means, faulty, read, recordsOf, wholeRecords}
+
+-- SLOTS NEEDED: 1 for the empty string, held or not, and 1 for each other string that begins or equals a held prefix
+abbrev pub isEmpty : Bits → Bool
+isEmpty [] = true
+isEmpty (b ∷ s) = false
+
+module _ {A : Type 0} where
+  abbrev pub beginsHeld : ℕ → Ledger A → Bits → Bool
+  beginsHeld w L s = some-of (λ t. isHeld (L (s ++ t))) (strings (w - length s))
+
+  unfoldable pub needs : ℕ → Ledger A → ℕ
+  needs w L = count (λ s. isEmpty s || beginsHeld w L s) (strings w)
+
+-- ONE RECORD APPLIED to a ledger for which `slots` slots are lent
+pub data Outcome : Type 0 where
+  taken : Ledger ℕ → Outcome
+  refused : ℕ → Outcome
+
+-- only the ledger after the record decides whether there is room
+abbrev pub ifRoom : ℕ → ℕ → Ledger ℕ → Outcome
+ifRoom w slots L = cond (leb (needs w L) slots) (taken L) (refused noSlots)
+
+abbrev pub change : ℕ → ℕ → Ledger ℕ → Change → Outcome
+change w slots L (announces p h) = ifRoom w slots (announce L p h)
+change w slots L (withdraws p) = cond (isHeld (L p)) (ifRoom w slots (withdraw L p)) (refused notHeld)
+
+abbrev pub apply : ℕ → ℕ → Ledger ℕ → Reading → Outcome
+apply w slots L (means c) = change w slots L c
+apply w slots L (faulty x) = refused x
+
+-- A LIST APPLIED, up to its first refusal: the refusal, the count of records applied before it, and the ledger after those
+pub record Applied : Type 0 where
+  pub refusal : Option ℕ
+  pub count : ℕ
+  pub ledger : Ledger ℕ
+
+abbrev pub oneMore : Applied → Applied
+oneMore a = record { refusal = a .refusal; count = suc (a .count); ledger = a .ledger }
+
+abbrev pub next : Ledger ℕ → Outcome → (Ledger ℕ → Applied) → Applied
+next L (taken M) rest = oneMore (rest M)
+next L (refused x) rest = record { refusal = some x; count = 0; ledger = L }
+
+abbrev pub applyAll : ℕ → ℕ → Ledger ℕ → List Reading → Applied
+applyAll w slots L [] = record { refusal = none; count = 0; ledger = L }
+applyAll w slots L (r ∷ rs) = next L (apply w slots L r) (λ M. applyAll w slots M rs)
+
+-- complete exactly when nothing was refused
+abbrev pub complete : Applied → Bool
+complete a = cond (isHeld (a .refusal)) false true
+
+-- AN UPDATE: a list that is no whole number of records is refused with 3, nothing applied
+unfoldable pub updated : ℕ → ℕ → Ledger ℕ → List ℕ → Applied
+updated k slots L bytes =
+    cond (wholeRecords k bytes) (applyAll (width k) slots L (map (read update k) (recordsOf k bytes)))
+    (record { refusal = some badListLength; count = 0; ledger = L })
+
+-- THE HOP OF AN ADDRESS, a number: longest match, and 0 where no held prefix begins it
+abbrev pub hopOf : ℕ → Ledger ℕ → ℕ → ℕ
+hopOf k L x = longest L noRoute (bitsOf (width k) x)
+
+-- A LIST LOOKED UP is checked whole: its entries, or its first fault and the fault's place, counted from 0
+pub record Scanned : Type 0 where
+  pub refusal : Option ℕ
+  pub place : ℕ
+  pub entries : List Entry
+
+abbrev pub scanOn : Reading → Scanned → Scanned
+scanOn (faulty x) s = record { refusal = some x; place = 0; entries = [] }
+scanOn (means (withdraws p)) s = record { refusal = some badAction; place = 0; entries = [] }
+scanOn (means (announces p h)) s =
+    record { refusal = s .refusal; place = cond (isHeld (s .refusal)) (suc (s .place)) 0; entries = p via h ∷ s .entries }
+
+abbrev pub scanAll : List Reading → Scanned
+scanAll [] = record { refusal = none; place = 0; entries = [] }
+scanAll (r ∷ rs) = scanOn r (scanAll rs)
+
+unfoldable pub scanned : ℕ → List ℕ → Scanned
+scanned k bytes =
+    cond (wholeRecords k bytes) (scanAll (map (read lookup k) (recordsOf k bytes)))
+    (record { refusal = some badListLength; place = 0; entries = [] })
+
+-- what a lookup answers: a refusal with hop 0 and the place, or the hop
+pub record Answer : Type 0 where
+  pub refusal : Option ℕ
+  pub hop : ℕ
+  pub place : ℕ
+
+abbrev pub lookedUp : ℕ → List ℕ → ℕ → Answer
+lookedUp k bytes x =
+    let s = scanned k bytes in
+    record { refusal = s .refusal; hop = cond (isHeld (s .refusal)) 0 (hopOf k (load (s .entries)) x); place = s .place }
+
+-- What the record rules keep true of a ledger: prefixes within the width, hops in their range.
+pub record WithinRules (w : ℕ) (L : Ledger ℕ) : Type 0 where
+  pub short : (p : Bits) (h : ℕ) → L p ≡ some h → length p ≤ w
+  pub low : (p : Bits) (h : ℕ) → L p ≡ some h → lowestHop ≤ h
+  pub high : (p : Bits) (h : ℕ) → L p ≡ some h → h ≤ highestHop

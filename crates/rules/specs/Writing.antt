@@ -1,0 +1,49 @@
+-- Writing the smallest table, and what is promised of it in document 01's words.
+use mathlib.Core.Path.{_≡_}
+use mathlib.Core.Bool.{Bool, true, false, cond}
+use mathlib.Core.List.{List, [], _∷_}
+use Prim.Native.Nat.{ℕ, _≤_, _<_, _^_}
+use lib.ListN.{length}
+use Rattle.theory.specs.Bits.{Bits, Each}
+use Rattle.theory.specs.Hops.{only}
+use Rattle.theory.specs.Ledger.{Ledger, Entry, _via_, isHeld, load, held}
+use Rattle.theory.specs.Smallest.{table}
+use Rattle.theory.specs.Theorem.{leaves, Sorted, Proper}
+use Rattle.rules.specs.Numbers.{width, hopBound, lowestHop, noRoute, noDefault}
+use Rattle.rules.specs.Plain.{hopOf}
+
+-- THE SMALLEST TABLE of a ledger: each address has the set that holds its one hop
+unfoldable pub smallestTable : ℕ → Ledger ℕ → List Entry
+smallestTable k L = table hopBound (width k) (leaves only L noRoute) noRoute
+
+-- what writing comes to before the output's room is looked at: the table, or refusal 10 where no default is held
+pub data Written : Type 0 where
+  writes : List Entry → Written
+  refuses : ℕ → Written
+
+abbrev pub written : ℕ → Ledger ℕ → Written
+written k L = cond (isHeld (L [])) (writes (smallestTable k L)) (refuses noDefault)
+
+-- a list of entries forwards as a ledger does: the same hop for each address, all 2 ^ width of them
+abbrev pub ForwardsAs : ℕ → Ledger ℕ → List Entry → Type 0
+ForwardsAs k L es = (x : ℕ) → x < 2 ^ width k → hopOf k (load es) x ≡ hopOf k L x
+
+abbrev pub RealHop : Entry → Type 0
+RealHop (p via h) = lowestHop ≤ h
+
+-- WHAT IS PROMISED of the table T that is written for the ledger L
+pub record SmallestFor (k : ℕ) (L : Ledger ℕ) (T : List Entry) : Type 0 where
+  -- it agrees with the ledger on every address
+  pub agrees : ForwardsAs k L T
+  -- no list of entries that agrees, with any prefixes and any hops, has fewer
+  pub fewest : (es : List Entry) → ForwardsAs k L es → length T ≤ length es
+  -- never more entries than routes held
+  pub at-most-held : length T ≤ held (width k) L
+  -- by address, then by length; entries proper, hops in the range of an announcement
+  pub sorted : Sorted (width k) T
+  pub proper : Each (Proper hopBound (width k)) T
+  pub real-hops : Each RealHop T
+  -- the empty string has its entry, with a hop of its own
+  pub default : isHeld (load T []) ≡ true
+  -- loading it and writing again gives the same list
+  pub again : smallestTable k (load T) ≡ T

@@ -1,0 +1,1 @@
+// The rules of document 01 are definitions; the code that obeys them stands in the crates above.
