@@ -1,1 +1,4 @@
 pub mod Smallest
+pub mod Records
+pub mod Plain
+pub mod Slots

@@ -9,11 +9,11 @@ use native.Mathlib.Omega.{arith}
 use lib.ListN.{length}
 use borrow.Author.Tests.{ne-eqb}
 use Rattle.theory.specs.Bits.{Bits, bitsOf, addressOf, Each}
-use Rattle.theory.specs.Hops.{only}
+use Rattle.theory.specs.Hops.{only, least}
 use Rattle.theory.specs.Ledger.{Ledger, Entry, _via_, isHeld, longest, load, held}
 use Rattle.theory.specs.Smallest.{Leaves, setOf, entry, table}
 use Rattle.theory.specs.Theorem.{leaves, AllAllowed, Agrees, Smallest}
-use Rattle.theory.proofs.Hops.{only-allowed, only-one, only-self}
+use Rattle.theory.proofs.Hops.{never, only-allowed, only-one, only-self}
 use Rattle.theory.proofs.Longest.{longest-keeps, longest-default}
 use Rattle.theory.proofs.Sets.{set-avoids}
 use Rattle.theory.proofs.Agrees.{table-top}
@@ -23,6 +23,10 @@ use Rattle.theory.proofs.Theorem as theorem
 use Rattle.rules.specs.Numbers.{width, hopBound, lowestHop, highestHop, noRoute}
 use Rattle.rules.specs.Plain.{hopOf, WithinRules}
 use Rattle.rules.specs.Writing.{smallestTable, ForwardsAs, RealHop, SmallestFor}
+
+held-some : (o : Option ℕ) → isHeld o ≡ true → (x : ℕ) × (o ≡ some x)
+held-some none e = never e refl
+held-some (some x) e = (x, refl)
 
 -- Two ledgers give the same hop at every number of w bits exactly when they do at every string of w bits.
 module _ (k : ℕ) (L M : Ledger ℕ) where
@@ -45,18 +49,41 @@ module _ (k : ℕ) (L M : Ledger ℕ) where
 
 module _ (k : ℕ) (L : Ledger ℕ) (ok : WithinRules (width k) L) where
   hop-high : (a : Bits) → longest L noRoute a ≤ highestHop
-  hop-high = longest-keeps (λ h. h ≤ highestHop) L noRoute (ok .high) (omega arith)
+  hop-high = longest-keeps (λ h. h ≤ highestHop) L noRoute (λ p h e. ok p h e .2) (omega arith)
 
   allowed : AllAllowed hopBound (width k) (leaves only L noRoute)
   allowed a e = only-allowed hopBound (longest L noRoute a) (let h = hop-high a in omega arith)
 
   module _ (default : isHeld (L []) ≡ true) where
     hop-low : (a : Bits) → lowestHop ≤ longest L noRoute a
-    hop-low a = ?
+    hop-low a =
+      let h = held-some (L []) default in
+      subst (λ (g : ℕ). lowestHop ≤ g) (sym (longest-default L (h .0) noRoute (h .1) a))
+      (longest-keeps (λ g. lowestHop ≤ g) L (h .0) (λ p g e. ok p g e .1) (ok [] (h .0) (h .1) .1) a)
 
     not-none : (a : Bits) → length a ≡ width k → leaves only L noRoute a noRoute ≡ false
     not-none a e = ne-eqb noRoute (longest L noRoute a) (let h = hop-low a in omega arith)
 
+    real : (es : List Entry) → Each (HopNot noRoute) es → Each RealHop es
+    real [] p = tt
+    real (s via h ∷ es) p = (let z = p .0 in omega arith, real es (p .1))
+
     pub smallest-for : SmallestFor k L (smallestTable k L)
     unfolding smallestTable
-    smallest-for = ?
+    smallest-for =
+      let w = width k in
+      let F = leaves only L noRoute in
+      let T = table hopBound w F noRoute in
+      let all = theorem.smallest hopBound w F noRoute allowed in
+      record {
+        agrees = strings-numbers k (load T) L (λ a e. only-one (longest L noRoute a) _ (all .agrees a e));
+        fewest = λ es same. all .fewest es
+          (λ a e. subst (λ (h : ℕ). only (longest L noRoute a) h ≡ true) (sym (numbers-strings k (load es) L same a e)) (only-self (longest L noRoute a)));
+        at-most-held = theorem.at-most-held hopBound w only (λ h. h) L noRoute allowed (λ a e. only-self (longest L noRoute a));
+        sorted = all .sorted;
+        proper = all .proper;
+        real-hops = real T (avoids hopBound w F noRoute noRoute allowed not-none);
+        default =
+          ap isHeld (table-top hopBound w F noRoute)
+          ∙ ap (λ b. isHeld (cond b none (some (least hopBound (setOf hopBound w F))))) (set-avoids hopBound w F noRoute not-none);
+        again = theorem.writes-again hopBound w F noRoute allowed }

@@ -3,14 +3,14 @@ use mathlib.Core.Path.{_≡_}
 use mathlib.Core.Bool.{Bool, true, false, cond, _||_}
 use mathlib.Core.List.{List, [], _∷_, _++_}
 use mathlib.Core.Option.{Option, none, some}
-use Prim.Native.Nat.{ℕ, zero, suc, _-_, _≤_}
+use Prim.Native.Nat.{ℕ, zero, suc, _-_}
 use lib.Dec.{leb}
 use lib.ListN.{length}
 use Rattle.theory.specs.Bits.{Bits, bitsOf, strings, count, some-of}
 use Rattle.theory.specs.Ledger.{Ledger, Entry, _via_, isHeld, announce, withdraw, longest, load}
-use Rattle.rules.specs.Numbers.{width, lowestHop, highestHop, noRoute, badListLength, badAction, notHeld, noSlots}
+use Rattle.rules.specs.Numbers.{width, noRoute, badListLength, badAction, notHeld, noSlots}
 use mathlib.Core.List.{map}
-use Rattle.rules.specs.Records.{Change, announces, withdraws, Use, update, lookup, Reading, means, faulty, read, recordsOf, wholeRecords}
+use Rattle.rules.specs.Records.{Change, announces, withdraws, ProperChange, Use, update, lookup, Reading, means, faulty, read, recordsOf, wholeRecords}
 
 -- SLOTS NEEDED: 1 for the empty string, held or not, and 1 for each other string that begins or equals a held prefix
 abbrev pub isEmpty : Bits → Bool
@@ -104,8 +104,6 @@ lookedUp k bytes x =
     let s = scanned k bytes in
     record { refusal = s .refusal; hop = cond (isHeld (s .refusal)) 0 (hopOf k (load (s .entries)) x); place = s .place }
 
--- What the record rules keep true of a ledger: prefixes within the width, hops in their range.
-pub record WithinRules (w : ℕ) (L : Ledger ℕ) : Type 0 where
-  pub short : (p : Bits) (h : ℕ) → L p ≡ some h → length p ≤ w
-  pub low : (p : Bits) (h : ℕ) → L p ≡ some h → lowestHop ≤ h
-  pub high : (p : Bits) (h : ℕ) → L p ≡ some h → h ≤ highestHop
+-- What the record rules keep true of a ledger: each held route is one that a record can announce.
+abbrev pub WithinRules : ℕ → Ledger ℕ → Type 0
+WithinRules w L = (p : Bits) (h : ℕ) → L p ≡ some h → ProperChange w (announces p h)

@@ -2,7 +2,7 @@
 use mathlib.Core.Bool.{Bool, true, false, cond, not, _&&_, _||_}
 use mathlib.Core.List.{List, [], _∷_, _++_}
 use mathlib.Core.Option.{Option, none, some}
-use Prim.Native.Nat.{ℕ, zero, suc, _+_, _-_, _*_, _/_, _%_, _^_}
+use Prim.Native.Nat.{ℕ, zero, suc, _+_, _-_, _*_, _/_, _%_, _^_, _≤_}
 use lib.Dec.{eqb, leb, ltb}
 use lib.ListN.{length, take, drop, getD}
 use Rattle.theory.specs.Bits.{Bits, bitsOf, addressOf}
@@ -22,6 +22,11 @@ bytesOf (suc k) x = x / 256 ^ k % 256 ∷ bytesOf k x
 pub data Change : Type 0 where
   announces : Bits → ℕ → Change
   withdraws : Bits → Change
+
+-- a change that a record can carry: the prefix within the width, and an announced hop in its range
+abbrev pub ProperChange : ℕ → Change → Type 0
+ProperChange w (announces p h) = (length p ≤ w) × (lowestHop ≤ h) × (h ≤ highestHop)
+ProperChange w (withdraws p) = length p ≤ w
 
 -- a record's bytes: the address, the length, the action, and the hop in two bytes
 abbrev pub print : ℕ → Change → List ℕ

@@ -11,6 +11,22 @@ use mathlib.Core.Option.{Option, none, some}
 use Rattle.theory.specs.Bits.{Bits, same, strings, count, some-of}
 use Rattle.theory.specs.Ledger.{Ledger, Entry, _via_, below, line, lines, routes}
 use Rattle.theory.specs.Smallest.{move, under}
+use Rattle.theory.proofs.Hops.{never}
+
+-- The test for equal strings.
+pub same-self : (s : Bits) → same s s ≡ true
+same-self [] = refl
+same-self (true ∷ s) = same-self s
+same-self (false ∷ s) = same-self s
+
+pub same-true : (s t : Bits) → same s t ≡ true → s ≡ t
+same-true [] [] e = refl
+same-true [] (c ∷ t) e = never e refl
+same-true (b ∷ s) [] e = never e refl
+same-true (true ∷ s) (true ∷ t) e = ap (λ r. true ∷ r) (same-true s t e)
+same-true (true ∷ s) (false ∷ t) e = never e refl
+same-true (false ∷ s) (true ∷ t) e = never e refl
+same-true (false ∷ s) (false ∷ t) e = ap (λ r. false ∷ r) (same-true s t e)
 
 module _ {A : Type 0} (p : A → Bool) where
   pub count-append : (xs ys : List A) → count p (xs ++ ys) ≡ count p xs + count p ys
