@@ -3,7 +3,7 @@ use mathlib.Core.Path.{_≡_, refl, sym, ap, ap₂, _∙_, subst, subst₂}
 use mathlib.Core.Bool.{Bool, true, false, cond, not, _||_, _&&_}
 use mathlib.Core.List.{List, [], _∷_, _++_, map}
 use mathlib.Core.Option.{Option, none, some}
-use mathlib.Core.Logic.{_⊎_, inl, inr}
+use mathlib.Core.Logic.{_⊎_, inl, inr, ⊎-map}
 use Prim.Native.Nat.{ℕ, zero, suc, _+_, _-_, _%_, _^_, min, _≤_, _<_}
 use native.Mathlib.Omega.{arith}
 use lib.ListN.{length, take, getD, length-take}
@@ -16,7 +16,7 @@ use Rattle.theory.proofs.Address.{bits-length}
 use Rattle.theory.proofs.Strings.{same-true}
 use Rattle.rules.specs.Numbers.{width, lowestHop, highestHop, announceAction, notHeld, noSlots}
 use Rattle.rules.specs.Records.{Change, announces, withdraws, ProperChange, Fields, fieldsOf, Use, update, Rule, _refusedBy_, badHopFor, fieldRules, firstFault, Reading, means, faulty, meaning, faultOr, read, recordsOf, wholeRecords}
-use Rattle.rules.specs.Plain.{needs, Outcome, taken, refused, ifRoom, change, apply, Applied, oneMore, next, applyAll, updated, WithinRules}
+use Rattle.rules.specs.Plain.{needs, Outcome, taken, refused, ifRoom, change, apply, Applied, oneMore, next, applyAll, updated, WithinRules, Counted, Finished, Stopped}
 
 -- A record that has a meaning has a proper one.
 faultless : (o : Option ℕ) (m c : Change) → faultOr o m ≡ means c → (o ≡ none) × (m ≡ c)
@@ -125,3 +125,23 @@ updated-kept k slots L bytes ok =
 
 pub nothing-within : (w : ℕ) → WithinRules w nothing
 nothing-within w p h e = absurd (let z : _≡_ {A = ℕ} 0 1 = cc in omega arith)
+
+-- THE COUNT is that of the records really applied.
+module _ (w slots : ℕ) (L : Ledger ℕ) (r : Reading) (rs : List Reading) where
+  counted-step : (o : Outcome) → apply w slots L r ≡ o
+    → ((M : Ledger ℕ) → Counted w slots M rs (applyAll w slots M rs))
+    → Counted w slots L (r ∷ rs) (next L o (λ M. applyAll w slots M rs))
+  counted-step (taken M) e rest =
+    let c = rest M in
+    record {
+      really = rw e (ap oneMore (c .really));
+      ending = ⊎-map
+        (λ f. record { quiet = f .quiet; all = ap suc (f .all) })
+        (λ s. (s .0, record { number = s .1 .number; early = omega (arith, s .1 .early); there = s .1 .there })) (c .ending) }
+  counted-step (refused x) e rest = record {
+    really = refl;
+    ending = inr (x, record { number = refl; early = omega arith; there = e }) }
+
+pub counted : (w slots : ℕ) (L : Ledger ℕ) (rs : List Reading) → Counted w slots L rs (applyAll w slots L rs)
+counted w slots L [] = record { really = refl; ending = inl record { quiet = refl; all = refl } }
+counted w slots L (r ∷ rs) = counted-step w slots L r rs (apply w slots L r) refl (λ M. counted w slots M rs)

@@ -1,11 +1,12 @@
 -- THE PLAIN LEDGER: what a batch of records does to what is held, and what a list that is looked up answers.
 use mathlib.Core.Path.{_≡_}
+use mathlib.Core.Logic.{_⊎_}
 use mathlib.Core.Bool.{Bool, true, false, cond, _||_}
 use mathlib.Core.List.{List, [], _∷_, _++_}
 use mathlib.Core.Option.{Option, none, some}
-use Prim.Native.Nat.{ℕ, zero, suc, _-_}
+use Prim.Native.Nat.{ℕ, zero, suc, _-_, _<_}
 use lib.Dec.{leb}
-use lib.ListN.{length}
+use lib.ListN.{length, take, getD}
 use Rattle.theory.specs.Bits.{Bits, bitsOf, strings, count, some-of}
 use Rattle.theory.specs.Ledger.{Ledger, Entry, _via_, isHeld, announce, withdraw, longest, load}
 use Rattle.rules.specs.Numbers.{width, noRoute, badListLength, badAction, notHeld, noSlots}
@@ -61,6 +62,21 @@ applyAll w slots L (r ∷ rs) = next L (apply w slots L r) (λ M. applyAll w slo
 -- complete exactly when nothing was refused
 abbrev pub complete : Applied → Bool
 complete a = cond (isHeld (a .refusal)) false true
+
+-- What the count stands for: the records that were really applied. Exactly they, none refused, make the ledger that is left; ..
+pub record Stopped (w slots : ℕ) (rs : List Reading) (a : Applied) (x : ℕ) : Type 0 where
+  pub number : a .refusal ≡ some x
+  pub early : a .count < length rs
+  pub there : apply w slots (a .ledger) (getD rs (a .count) (faulty 0)) ≡ refused x
+
+pub record Finished (rs : List Reading) (a : Applied) : Type 0 where
+  pub quiet : a .refusal ≡ none
+  pub all : a .count ≡ length rs
+
+pub record Counted (w slots : ℕ) (L : Ledger ℕ) (rs : List Reading) (a : Applied) : Type 0 where
+  pub really : applyAll w slots L (take (a .count) rs) ≡ record { refusal = none; count = a .count; ledger = a .ledger }
+  -- .. and they are all, or the next one is refused in that ledger
+  pub ending : Finished rs a ⊎ ((x : ℕ) × Stopped w slots rs a x)
 
 -- AN UPDATE: a list that is no whole number of records is refused with 3, nothing applied
 unfoldable pub updated : ℕ → ℕ → Ledger ℕ → List ℕ → Applied
