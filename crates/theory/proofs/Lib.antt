@@ -9,4 +9,5 @@ pub mod Reload
 pub mod Strings
 pub mod Rules
 pub mod Held
+pub mod OneHop
 pub mod Theorem

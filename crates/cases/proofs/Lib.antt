@@ -1,0 +1,4 @@
+pub mod Vectors
+pub mod Trie
+pub mod Updates
+pub mod Cases

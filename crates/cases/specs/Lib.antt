@@ -1,0 +1,2 @@
+pub mod Trie
+pub mod Cases
