@@ -98,11 +98,11 @@ withdraw-needs w L p =
 
 -- The examples of document 01: nothing needs 1 slot, and a prefix alone needs one for each of its bits and one more.
 module _ (A : Type 0) where
-  live-nothing : (w : ℕ) → live w (nothing {A = A}) ≡ false
+  pub live-nothing : (w : ℕ) → live w (nothing {A = A}) ≡ false
   live-nothing zero = refl
   live-nothing (suc w) = live-down w (nothing {A = A}) ∙ rw (live-nothing w)
 
-  used-nothing : (w : ℕ) → used w (nothing {A = A}) ≡ 0
+  pub used-nothing : (w : ℕ) → used w (nothing {A = A}) ≡ 0
   used-nothing zero = refl
   used-nothing (suc w) = used-down w (nothing {A = A}) ∙ rw (live-nothing (suc w), used-nothing w)
 
