@@ -34,7 +34,7 @@ unbroken (false refusedBy x ∷ rules) e = (refl, unbroken rules e)
 prefix-short : (w n x : ℕ) → length (take n (bitsOf w x)) ≤ w
 prefix-short w n x = omega (arith, length-take n (bitsOf w x), bits-length w x)
 
-or-none : (a b : Bool) → (a || b) ≡ false → (a ≡ false) × (b ≡ false)
+pub or-none : (a b : Bool) → (a || b) ≡ false → (a ≡ false) × (b ≡ false)
 or-none true b e = never refl e
 or-none false b e = (refl, e)
 
@@ -92,7 +92,7 @@ change-kept w slots L M (withdraws p) ok proper e =
     | inr h ↦ let f : refused notHeld ≡ taken M = rw h at e in absurd (let z : _≡_ {A = ℕ} 0 1 = cc in omega arith) ]
 
 -- the readings' meanings are proper
-abbrev Sound : ℕ → Reading → Type 0
+abbrev pub Sound : ℕ → Reading → Type 0
 Sound w r = (c : Change) → r ≡ means c → ProperChange w c
 
 apply-kept : (w slots : ℕ) (L M : Ledger ℕ) (r : Reading) → Kept w slots L → Sound w r → apply w slots L r ≡ taken M → Kept w slots M
@@ -111,7 +111,7 @@ applyAll-kept w slots L (r ∷ rs) ok sound =
     next-kept w slots L (apply w slots L r) (λ M. applyAll w slots M rs) ok
     (λ M e. applyAll-kept w slots M rs (apply-kept w slots L M r ok (sound .0) e) (sound .1))
 
-readings-sound : (u : Use) (k : ℕ) (rs : List (List ℕ)) → Each (Sound (width k)) (map (read u k) rs)
+pub readings-sound : (u : Use) (k : ℕ) (rs : List (List ℕ)) → Each (Sound (width k)) (map (read u k) rs)
 readings-sound u k [] = tt
 readings-sound u k (r ∷ rs) = ((λ c e. read-proper u k r c e), readings-sound u k rs)
 

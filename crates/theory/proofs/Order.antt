@@ -26,6 +26,10 @@ each-of : {A : Type 0} {P : A → Type 0} → ((x : A) → P x) → (xs : List A
 each-of f [] = tt
 each-of f (x ∷ xs) = (f x, each-of f xs)
 
+pub each-map : {A : Type 0} (P Q : A → Type 0) → ((x : A) → P x → Q x) → (xs : List A) → Each P xs → Each Q xs
+each-map P Q f [] p = tt
+each-map P Q f (x ∷ xs) p = (f x (p .0), each-map P Q f xs (p .1))
+
 each-under : (P Q : Entry → Type 0) (b : Bool) → ((e : Entry) → P e → Q (move b e)) → (es : List Entry)
   → Each P es → Each Q (under b es)
 each-under P Q b f [] p = tt
