@@ -1,0 +1,125 @@
+-- SMALL WIDTHS BY FORCE: every forwarding, against every table of that width with fewer entries than the written one.
+-- The search knows nothing of sets, strings or longest match: a table is a run of brush strokes on a row of 2 ^ w addresses,
+-- wide strokes first, and what is left on the row is the forwarding. Only `written` and `agrees`, at the end, touch the
+-- definitions that are tested.
+use mathlib.Core.Path.{_≡_}
+use mathlib.Core.Bool.{Bool, true, false, cond, not, _&&_, _||_}
+use mathlib.Core.List.{List, [], _∷_, _++_, map}
+use Prim.Native.Nat.{ℕ, zero, suc, _+_, _-_, _*_, _/_, _%_, _^_}
+use lib.Dec.{eqb, leb}
+use lib.ListN.{length, getD, replicate}
+use Rattle.theory.specs.Bits.{Bits}
+use Rattle.theory.specs.Hops.{only}
+use Rattle.theory.specs.Ledger.{Entry, _via_}
+use Rattle.theory.specs.Smallest.{Leaves, table}
+
+-- a stroke: from which address on, and over how many
+pub data Place : Type 0 where
+  _over_ : ℕ → ℕ → Place
+
+infixl 90 _over_
+
+abbrev pub Row : Type 0
+Row = List ℕ
+
+abbrev pub paint : ℕ → ℕ → ℕ → Row → Row
+paint at size h [] = []
+paint zero zero h (x ∷ row) = x ∷ row
+paint zero (suc size) h (x ∷ row) = h ∷ paint zero size h row
+paint (suc at) size h (x ∷ row) = x ∷ paint at size h row
+
+-- the places of a row of 2 ^ w addresses that a prefix can stand for, wide ones first
+abbrev level : ℕ → ℕ → List Place
+level zero size = []
+level (suc m) size = level m size ++ (m * size) over size ∷ []
+
+abbrev levels : ℕ → ℕ → List Place
+levels zero size = level 1 size
+levels (suc w) size = levels w (2 * size) ++ level (2 ^ suc w) size
+
+abbrev pub places : ℕ → List Place
+places w = levels w 1
+
+-- a set of rows, as the number whose bit at a row's own number is set; rows with an unpainted address (0) are left out
+abbrev full : Row → Bool
+full [] = true
+full (zero ∷ row) = false
+full (suc h ∷ row) = full row
+
+abbrev code : ℕ → Row → ℕ
+code hops [] = 0
+code hops (h ∷ row) = (h - 1) + hops * code hops row
+
+abbrev pub reached : ℕ → Row → ℕ → Bool
+reached hops row found = eqb (found / 2 ^ code hops row % 2) 1
+
+abbrev mark : ℕ → Row → ℕ → ℕ
+mark hops row found = cond (not (full row) || reached hops row found) found (found + 2 ^ code hops row)
+
+-- EVERY TABLE with at most k entries and hops 1 to `hops`: at each place no stroke, or a stroke of each hop
+abbrev pub eachHop : ℕ → (ℕ → ℕ → ℕ) → ℕ → ℕ
+eachHop zero try found = found
+eachHop (suc h) try found = try (suc h) (eachHop h try found)
+
+abbrev pub search : ℕ → List Place → ℕ → Row → ℕ → ℕ
+search hops [] k row found = mark hops row found
+search hops (p ∷ ps) zero row found = mark hops row found
+search hops (at over size ∷ ps) (suc k) row found =
+    eachHop hops (λ h f. search hops ps k (paint at size h row) f) (search hops ps (suc k) row found)
+
+-- the rows that tables of at most k entries leave, for k below m
+abbrev pub reachable : ℕ → ℕ → ℕ → List ℕ
+reachable w hops zero = []
+reachable w hops (suc k) = reachable w hops k ++ search hops (places w) k (replicate (2 ^ w) 0) 0 ∷ []
+
+-- every full row of n addresses
+abbrev pub rows : ℕ → ℕ → List Row
+rows zero hops = [] ∷ []
+rows (suc n) hops = grow hops (rows n hops)
+  where
+    withHop : ℕ → List Row → List Row
+    withHop h rs = map (λ r. h ∷ r) rs
+    grow : ℕ → List Row → List Row
+    grow zero rs = []
+    grow (suc h) rs = grow h rs ++ withHop (suc h) rs
+
+-- What is tested: the table that the definitions write for a row, and the row that its entries leave
+abbrev placeOf : ℕ → ℕ → Bits → Place
+placeOf at size [] = at over size
+placeOf at size (false ∷ s) = placeOf at (size / 2) s
+placeOf at size (true ∷ s) = placeOf (at + size / 2) (size / 2) s
+
+abbrev start : Place → ℕ
+start (at over size) = at
+
+abbrev stroke : Place → ℕ → Row → Row
+stroke (at over size) h row = paint at size h row
+
+abbrev pub written : ℕ → ℕ → Row → List Entry
+written w hops row = table (suc hops) w (λ a. only (getD row (start (placeOf 0 (2 ^ w) a)) 0)) 0
+
+abbrev pub left : ℕ → List Entry → Row → Row
+left w [] row = row
+left w (s via h ∷ es) row = left w es (stroke (placeOf 0 (2 ^ w) s) h row)
+
+abbrev sameRow : Row → Row → Bool
+sameRow [] [] = true
+sameRow [] (y ∷ ys) = false
+sameRow (x ∷ xs) [] = false
+sameRow (x ∷ xs) (y ∷ ys) = eqb x y && sameRow xs ys
+
+-- THE TEST of one row: the written table leaves it, and no table with fewer entries does
+abbrev pub smallest : ℕ → ℕ → List ℕ → Row → List Entry → Bool
+smallest w hops found row es =
+    sameRow (left w es (replicate (2 ^ w) 0)) row
+    && (leb (length es) (length found) && not (reached hops row (getD found (length es - 1) 0)))
+
+abbrev every : (Row → Bool) → List Row → Bool
+every p [] = true
+every p (r ∷ rs) = p r && every p rs
+
+-- every row of 2 ^ w addresses with hops 1 to `hops`; no table needs more than m entries
+abbrev pub searched : ℕ → ℕ → ℕ → Bool
+searched w hops m =
+    let found = reachable w hops m in
+    every (λ row. smallest w hops found row (written w hops row)) (rows (2 ^ w) hops)
