@@ -24,17 +24,17 @@ use Rattle.cases.specs.Cases.{Result, Case, after, resultOf, LooksUp, Ho
 use Rattle.cases.proofs.Trie.{needs-in, table-in}
 use Rattle.cases.proofs.Updates.{imageAll, batch-in}
 
-abbrev readings : Case → List Reading
+abbrev pub readings : Case → List Reading
 readings c = map (read update ipv4) (recordsOf ipv4 (printAll ipv4 (c .records)))
 
-abbrev afterIn : Case → AppliedIn
+abbrev pub afterIn : Case → AppliedIn
 afterIn c = applyAllIn (c .slots) bare (readings c)
 
 abbrev resultIn : AppliedIn → Result
 resultIn a = record { refusal = a .refusal; count = a .count; needed = needsIn (a .trie); output = writtenIn (a .trie) }
 
 -- the definitions' answer is the trie's
-after-in : (c : Case) → (after c ≡ imageAll (afterIn c)) × (within hopBound (width ipv4) (afterIn c .trie) ≡ true)
+pub after-in : (c : Case) → (after c ≡ imageAll (afterIn c)) × (within hopBound (width ipv4) (afterIn c .trie) ≡ true)
 unfolding updated
 after-in c =
     let s = batch-in (width ipv4) (c .slots) bare (readings c) refl (readings-sound update ipv4 (recordsOf ipv4 (printAll ipv4 (c .records)))) in
@@ -70,6 +70,7 @@ Quiet (refuses x) t = liveIn t ≡ false
 
 looks-up : (L : Ledger ℕ) (t : Trie) (o : Written) → L ≡ asLedger t → WithinRules (width ipv4) L → written ipv4 L ≡ o → Quiet o t
   → LooksUp L o
+unfolding hopOf
 looks-up L t (writes T) same ok e q =
     elim (by-test (isHeld (L []))) [
     inl h ↦

@@ -3,3 +3,4 @@ pub mod Trie
 pub mod Updates
 pub mod Cases
 pub mod Search
+pub mod Tempting

@@ -1,29 +1,30 @@
--- Small widths by force, computed by the checker: widths 1 and 2 with up to 3 hops, width 3 with up to 2.
+-- Small widths by force, computed by the checker: the definitions pass every round, and the tempting writers fail.
 use mathlib.Core.Path.{_≡_, refl}
-use mathlib.Core.Bool.{true}
+use mathlib.Core.Bool.{true, false}
+use mathlib.Core.List.{List, [], _∷_}
+use Prim.Native.Nat.{ℕ}
+use lib.ListN.{length}
+use Rattle.theory.specs.Bits.{Each}
 use Rattle.theory.specs.Hops.{join}
-use Rattle.cases.specs.Search.{searched}
+use Rattle.cases.specs.Search.{Round, round, rounds, passes}
+use Rattle.cases.specs.Tempting.{byDefinition, alwaysUnion, leastAlways}
 
-pub width-1-1 : searched 1 1 1 ≡ true
+pub definitions-pass : Each (λ r. passes byDefinition r ≡ true) rounds
 unfolding join
-width-1-1 = refl
+definitions-pass = (refl, (refl, (refl, (refl, (refl, (refl, (refl, (refl, tt))))))))
 
-pub width-1-2 : searched 1 2 2 ≡ true
-unfolding join
-width-1-2 = refl
+-- The search can fail: with 2 bits and 3 hops it finds out both writers.
+pub union-fails : passes alwaysUnion (round 2 3 5) ≡ false
+union-fails = refl
 
-pub width-1-3 : searched 1 3 2 ≡ true
+pub least-fails : passes leastAlways (round 2 3 5) ≡ false
 unfolding join
-width-1-3 = refl
+least-fails = refl
 
-pub width-2-2 : searched 2 2 3 ≡ true
-unfolding join
-width-2-2 = refl
+-- Always taking the union writes four entries for C, whose addresses' hops are 2, 1, 2, 3; the definitions write three.
+pub union-writes-four : length (alwaysUnion 2 3 (2 ∷ 1 ∷ 2 ∷ 3 ∷ [])) ≡ 4
+union-writes-four = refl
 
-pub width-2-3 : searched 2 3 3 ≡ true
+pub definitions-write-three : length (byDefinition 2 3 (2 ∷ 1 ∷ 2 ∷ 3 ∷ [])) ≡ 3
 unfolding join
-width-2-3 = refl
-
-pub width-3-2 : searched 3 2 5 ≡ true
-unfolding join
-width-3-2 = refl
+definitions-write-three = refl

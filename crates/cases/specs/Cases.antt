@@ -84,19 +84,43 @@ abbrev refused-with : ℕ → ℕ → List Change → ℕ → ℕ → Written �
 refused-with slots x cs n needed output =
     record { slots = slots; records = cs; result = record { refusal = some x; count = n; needed = needed; output = output } }
 
+-- C, in the 6 slots that it needs, and E: the tempting writers are tried on them
+abbrev pub tableC : List Entry
+tableC = * via 2 ∷ 01* via 1 ∷ 11* via 3 ∷ []
+
+abbrev pub caseC : Case
+caseC = all-taken 6 4 (announces * 1 ∷ announces 00* 2 ∷ announces 10* 2 ∷ announces 11* 3 ∷ []) 6 (writes tableC)
+
+abbrev pub tableE : List Entry
+tableE = * via 1 ∷ 0* via 2 ∷ []
+
+abbrev pub caseE : Case
+caseE = all-taken 64 2 (announces * 2 ∷ announces 1* 1 ∷ []) 2 (writes tableE)
+
+-- C's table whole, byte by byte, and C's routes as they were announced
+abbrev pub bytesC : List ℕ
+bytesC =
+    0x00 ∷ 0x00 ∷ 0x00 ∷ 0x00 ∷ 0x00 ∷ 0x01 ∷ 0x00 ∷ 0x02
+    ∷ 0x40 ∷ 0x00 ∷ 0x00 ∷ 0x00 ∷ 0x02 ∷ 0x01 ∷ 0x00 ∷ 0x01
+    ∷ 0xc0 ∷ 0x00 ∷ 0x00 ∷ 0x00 ∷ 0x02 ∷ 0x01 ∷ 0x00 ∷ 0x03
+    ∷ []
+
+abbrev pub copyOfC : List Entry
+copyOfC = * via 1 ∷ 00* via 2 ∷ 10* via 2 ∷ 11* via 3 ∷ []
+
+-- THE TABLE
 abbrev pub cases : List Case
 cases =
     -- A nothing: writing 10, any lookup 0
     all-taken 64 0 [] 1 (refuses 10)
     -- B
     ∷ all-taken 64 1 (announces * 1 ∷ []) 1 (writes (* via 1 ∷ []))
-    -- C, in 6 slots
-    ∷ all-taken 6 4 (announces * 1 ∷ announces 00* 2 ∷ announces 10* 2 ∷ announces 11* 3 ∷ []) 6
-      (writes (* via 2 ∷ 01* via 1 ∷ 11* via 3 ∷ []))
+    -- C
+    ∷ caseC
     -- D
     ∷ all-taken 64 2 (announces * 1 ∷ announces 1* 2 ∷ []) 2 (writes (* via 1 ∷ 1* via 2 ∷ []))
     -- E
-    ∷ all-taken 64 2 (announces * 2 ∷ announces 1* 1 ∷ []) 2 (writes (* via 1 ∷ 0* via 2 ∷ []))
+    ∷ caseE
     -- F
     ∷ all-taken 64 3 (announces * 1 ∷ announces 0* 2 ∷ announces 1* 2 ∷ []) 3 (writes (* via 2 ∷ []))
     -- G: F, then withdraw 0*

@@ -1,3 +1,4 @@
 pub mod Trie
 pub mod Cases
 pub mod Search
+pub mod Tempting

@@ -1,17 +1,14 @@
--- SMALL WIDTHS BY FORCE: every forwarding, against every table of that width with fewer entries than the written one.
+-- SMALL WIDTHS BY FORCE: every forwarding, against every table of that width that has fewer entries than the written one.
 -- The search knows nothing of sets, strings or longest match: a table is a run of brush strokes on a row of 2 ^ w addresses,
--- wide strokes first, and what is left on the row is the forwarding. Only `written` and `agrees`, at the end, touch the
--- definitions that are tested.
-use mathlib.Core.Path.{_≡_}
+-- wide strokes first, and what is left on the row is the forwarding. A writer, which is what is tested, comes in as a
+-- parameter: it gets a row and hands back entries.
 use mathlib.Core.Bool.{Bool, true, false, cond, not, _&&_, _||_}
 use mathlib.Core.List.{List, [], _∷_, _++_, map}
 use Prim.Native.Nat.{ℕ, zero, suc, _+_, _-_, _*_, _/_, _%_, _^_}
 use lib.Dec.{eqb, leb}
 use lib.ListN.{length, getD, replicate}
 use Rattle.theory.specs.Bits.{Bits}
-use Rattle.theory.specs.Hops.{only}
 use Rattle.theory.specs.Ledger.{Entry, _via_}
-use Rattle.theory.specs.Smallest.{Leaves, table}
 
 -- a stroke: from which address on, and over how many
 pub data Place : Type 0 where
@@ -83,7 +80,7 @@ rows (suc n) hops = grow hops (rows n hops)
     grow zero rs = []
     grow (suc h) rs = grow h rs ++ withHop (suc h) rs
 
--- What is tested: the table that the definitions write for a row, and the row that its entries leave
+-- the place of a prefix, by halving the row
 abbrev placeOf : ℕ → ℕ → Bits → Place
 placeOf at size [] = at over size
 placeOf at size (false ∷ s) = placeOf at (size / 2) s
@@ -95,8 +92,9 @@ start (at over size) = at
 abbrev stroke : Place → ℕ → Row → Row
 stroke (at over size) h row = paint at size h row
 
-abbrev pub written : ℕ → ℕ → Row → List Entry
-written w hops row = table (suc hops) w (λ a. only (getD row (start (placeOf 0 (2 ^ w) a)) 0)) 0
+-- a row's hop at an address, and the row that a list of entries leaves
+abbrev pub hopAt : ℕ → Row → Bits → ℕ
+hopAt w row a = getD row (start (placeOf 0 (2 ^ w) a)) 0
 
 abbrev pub left : ℕ → List Entry → Row → Row
 left w [] row = row
@@ -108,7 +106,7 @@ sameRow [] (y ∷ ys) = false
 sameRow (x ∷ xs) [] = false
 sameRow (x ∷ xs) (y ∷ ys) = eqb x y && sameRow xs ys
 
--- THE TEST of one row: the written table leaves it, and no table with fewer entries does
+-- THE TEST of one row: the written entries leave it, and no table with fewer does
 abbrev pub smallest : ℕ → ℕ → List ℕ → Row → List Entry → Bool
 smallest w hops found row es =
     sameRow (left w es (replicate (2 ^ w) 0)) row
@@ -118,8 +116,23 @@ abbrev every : (Row → Bool) → List Row → Bool
 every p [] = true
 every p (r ∷ rs) = p r && every p rs
 
--- every row of 2 ^ w addresses with hops 1 to `hops`; no table needs more than m entries
-abbrev pub searched : ℕ → ℕ → ℕ → Bool
-searched w hops m =
-    let found = reachable w hops m in
-    every (λ row. smallest w hops found row (written w hops row)) (rows (2 ^ w) hops)
+-- a writer: given the width, the number of hops and the row
+abbrev pub Writer : Type 0
+Writer = ℕ → ℕ → Row → List Entry
+
+-- every row of 2 ^ w addresses with hops 1 to `hops`; no table may have more than `most` entries
+pub data Round : Type 0 where
+  round : ℕ → ℕ → ℕ → Round
+
+abbrev pub passes : Writer → Round → Bool
+passes writer (round w hops most) =
+    let found = reachable w hops most in
+    every (λ row. smallest w hops found row (writer w hops row)) (rows (2 ^ w) hops)
+
+-- widths 1 and 2 with up to 3 hops, width 3 with up to 2
+abbrev pub rounds : List Round
+rounds =
+    round 1 1 1 ∷ round 1 2 2 ∷ round 1 3 2
+    ∷ round 2 1 1 ∷ round 2 2 3 ∷ round 2 3 3
+    ∷ round 3 1 1 ∷ round 3 2 5
+    ∷ []

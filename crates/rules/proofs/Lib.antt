@@ -2,3 +2,4 @@ pub mod Smallest
 pub mod Records
 pub mod Plain
 pub mod Slots
+pub mod Ipv4

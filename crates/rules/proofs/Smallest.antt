@@ -32,12 +32,14 @@ held-some (some x) e = (x, refl)
 module _ (k : ℕ) (L M : Ledger ℕ) where
   numbers-strings : ((x : ℕ) → x < 2 ^ width k → hopOf k L x ≡ hopOf k M x)
     → (a : Bits) → length a ≡ width k → longest L noRoute a ≡ longest M noRoute a
+  unfolding hopOf
   numbers-strings same a e =
     let q = bits-address (width k) a e in
     subst (λ (t : Bits). longest L noRoute t ≡ longest M noRoute t) q (same (addressOf (width k) a) (address-below (width k) a))
 
   strings-numbers : ((a : Bits) → length a ≡ width k → longest L noRoute a ≡ longest M noRoute a)
     → (x : ℕ) → x < 2 ^ width k → hopOf k L x ≡ hopOf k M x
+  unfolding hopOf
   strings-numbers same x l = same (bitsOf (width k) x) (bits-length (width k) x)
 
   -- two ledgers that forward alike write the same table

@@ -8,7 +8,7 @@ use Prim.Native.Nat.{ℕ, zero, suc, _-_, _<_}
 use lib.Dec.{leb}
 use lib.ListN.{length, take, getD}
 use Rattle.theory.specs.Bits.{Bits, bitsOf, strings, count, some-of}
-use Rattle.theory.specs.Ledger.{Ledger, Entry, _via_, isHeld, announce, withdraw, longest, load}
+use Rattle.theory.specs.Ledger.{Ledger, Entry, _via_, isHeld, nothing, announce, withdraw, longest, load}
 use Rattle.rules.specs.Numbers.{width, noRoute, badListLength, badAction, notHeld, noSlots}
 use mathlib.Core.List.{map}
 use Rattle.rules.specs.Records.{Change, announces, withdraws, ProperChange, Use, update, lookup, Reading, means, faulty, read, recordsOf, wholeRecords}
@@ -84,8 +84,13 @@ updated k slots L bytes =
     cond (wholeRecords k bytes) (applyAll (width k) slots L (map (read update k) (recordsOf k bytes)))
     (record { refusal = some badListLength; count = 0; ledger = L })
 
+-- a ledger that is reached from the empty one by updates, in `slots` slots
+pub data Reached (k slots : ℕ) : Ledger ℕ → Type 0 where
+  at-first : Reached k slots nothing
+  after : {L : Ledger ℕ} → Reached k slots L → (bytes : List ℕ) → Reached k slots (updated k slots L bytes .ledger)
+
 -- THE HOP OF AN ADDRESS, a number: longest match, and 0 where no held prefix begins it
-abbrev pub hopOf : ℕ → Ledger ℕ → ℕ → ℕ
+unfoldable pub hopOf : ℕ → Ledger ℕ → ℕ → ℕ
 hopOf k L x = longest L noRoute (bitsOf (width k) x)
 
 -- A LIST LOOKED UP is checked whole: its entries, or its first fault and the fault's place, counted from 0
@@ -115,7 +120,7 @@ pub record Answer : Type 0 where
   pub hop : ℕ
   pub place : ℕ
 
-abbrev pub lookedUp : ℕ → List ℕ → ℕ → Answer
+unfoldable pub lookedUp : ℕ → List ℕ → ℕ → Answer
 lookedUp k bytes x =
     let s = scanned k bytes in
     record { refusal = s .refusal; hop = cond (isHeld (s .refusal)) 0 (hopOf k (load (s .entries)) x); place = s .place }

@@ -50,7 +50,7 @@ load-under : (b : Bool) (L : Ledger ℕ) (es : List Entry) → loadOnto L (under
 load-under b L [] = refl
 load-under b L (p via h ∷ es) = load-under b (announce L (b ∷ p) h) es
 
-load-append : (L : Ledger ℕ) (xs ys : List Entry) → loadOnto L (xs ++ ys) ≡ loadOnto (loadOnto L xs) ys
+pub load-append : (L : Ledger ℕ) (xs ys : List Entry) → loadOnto L (xs ++ ys) ≡ loadOnto (loadOnto L xs) ys
 load-append L [] ys = refl
 load-append L (p via h ∷ xs) ys = load-append (announce L p h) xs ys
 

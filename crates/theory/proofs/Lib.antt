@@ -10,4 +10,5 @@ pub mod Strings
 pub mod Rules
 pub mod Held
 pub mod OneHop
+pub mod Updates
 pub mod Theorem

@@ -1,0 +1,34 @@
+-- Tables that forward alike but are not the smallest, and one that does not forward alike, do not meet what is promised.
+use mathlib.Core.Path.{_≡_, refl, sym, ap, ap₂, _∙_, subst}
+use mathlib.Core.Bool.{Bool, true, false}
+use mathlib.Core.List.{List, [], _∷_}
+use mathlib.Core.Option.{Option, none, some}
+use Prim.Native.Nat.{ℕ, _≤_, _<_}
+use native.Mathlib.Omega.{arith}
+use lib.ListN.{length}
+use Rattle.theory.specs.Ledger.{Ledger, Entry, _via_, load}
+use Rattle.rules.specs.Numbers.{ipv4}
+use Rattle.rules.specs.Records.{read, printTable}
+use Rattle.rules.specs.Plain.{hopOf}
+use Rattle.rules.specs.Writing.{written, writes, ForwardsAs, SmallestFor}
+use Rattle.cases.specs.Trie.{asLedger}
+use Rattle.cases.specs.Cases.{Case, after, resultOf, Holds, caseC, tableC, bytesC, copyOfC, caseE, tableE}
+use Rattle.cases.specs.Tempting.{heldOnly}
+use Rattle.cases.proofs.Cases.{cases-hold, afterIn, after-in}
+
+-- C's table whole, byte by byte
+pub bytes-of-C : printTable ipv4 tableC ≡ bytesC
+bytes-of-C = refl
+
+-- a writer that copies the ledger out: C's routes are more than C's table, which forwards alike
+pub copy-is-not-smallest : SmallestFor ipv4 (after caseC .ledger) copyOfC → ⊥
+copy-is-not-smallest s = let few : 4 ≤ 3 = s .fewest tableC (cases-hold .1 .1 .0 .lookups) in omega arith
+
+-- a writer that forgets the strings that were never held: E's 0* is lost, and address 0 goes to the wrong neighbour
+pub forgetful-does-not-agree : ForwardsAs ipv4 (after caseE .ledger) (heldOnly (after caseE .ledger) tableE) → ⊥
+unfolding read hopOf
+forgetful-does-not-agree agrees =
+    let same = ap (λ a. a .ledger) (after-in caseE .0) in
+    let agrees-in = subst (λ L. ForwardsAs ipv4 L (heldOnly L tableE)) same agrees in
+    let wrong : _≡_ {A = ℕ} 1 2 = agrees-in 0 (omega arith) in
+    omega arith
