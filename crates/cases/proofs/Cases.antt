@@ -1,22 +1,24 @@
 -- THE ONE STATEMENT over the table of cases: each case holds of the definitions. It is computed on tries.
 use mathlib.Core.Path.{_≡_, refl, sym, ap, ap₂, _∙_, subst, fun-ext}
-use mathlib.Core.Bool.{Bool, true, false, cond, _||_}
+use mathlib.Core.Bool.{Bool, true, false, cond, not, _||_}
 use mathlib.Core.List.{List, [], _∷_, map}
 use mathlib.Core.Option.{Option, none, some}
 use mathlib.Core.Logic.{_⊎_, inl, inr}
-use Prim.Native.Nat.{ℕ, _≤_}
+use Prim.Native.Nat.{ℕ}
 use native.Mathlib.Omega.{arith}
+use lib.Dec.{leb}
+use borrow.Author.Tests.{leb-true}
 use Rattle.theory.specs.Bits.{Bits, Each, bitsOf}
 use Rattle.theory.specs.Ledger.{Ledger, Entry, isHeld, nothing, longest, load}
-use Rattle.theory.proofs.Hops.{by-test, never}
-use Rattle.theory.proofs.Order.{each-map}
+use Rattle.theory.proofs.Hops.{by-test, never, not-true}
+use Rattle.theory.proofs.Order.{each-map, each-of-map}
 use Rattle.theory.proofs.OneHop.{longest-nothing}
 use Rattle.rules.specs.Numbers.{ipv4, width, hopBound, noRoute, noDefault}
-use Rattle.rules.specs.Records.{Reading, read, update, recordsOf, printAll, wholeRecords}
+use Rattle.rules.specs.Records.{Reading, read, strayBits, update, recordsOf, printAll, wholeRecords}
 use Rattle.rules.specs.Plain.{Applied, applyAll, updated, needs, hopOf, WithinRules}
 use Rattle.rules.specs.Writing.{Written, writes, refuses, written, smallestTable, ForwardsAs, SmallestFor}
 use Rattle.rules.proofs.Records.{whole-print}
-use Rattle.rules.proofs.Plain.{or-none, readings-sound, updated-kept, nothing-within}
+use Rattle.rules.proofs.Plain.{or-none, Kept, readings-sound, updated-kept, nothing-within}
 use Rattle.rules.proofs.Slots.{needs-nothing}
 use Rattle.rules.proofs.Smallest.{smallest-for}
 use Rattle.cases.specs.Trie.{Trie, bare, node, asLedger, within, liveIn, needsIn, writtenIn, AppliedIn, applyAllIn}
@@ -53,7 +55,8 @@ result-in c =
       refusal = afterIn c .refusal;
       count = afterIn c .count;
       needed = needs-in hopBound (width ipv4) t (a .1) i;
-      output = written-in t (a .1) i })
+      output = written-in t (a .1) i;
+    })
 
 -- a trie with nothing live holds nothing
 dead : (t : Trie) → liveIn t ≡ false → (s : Bits) → asLedger t s ≡ none
@@ -63,58 +66,57 @@ dead (node none l r) e (false ∷ s) = dead l (or-none (liveIn l) (liveIn r) e .
 dead (node none l r) e (true ∷ s) = dead r (or-none (liveIn l) (liveIn r) e .1) s
 dead (node (some h) l r) e s = never refl e
 
--- lookups follow from what is written
-abbrev Quiet : Written → Trie → Type 0
-Quiet (writes T) t = Unit {0}
-Quiet (refuses x) t = liveIn t ≡ false
+-- lookups follow from what is written; where nothing is, nothing may be held
+abbrev quietIn : Written → Trie → Bool
+quietIn (writes T) t = true
+quietIn (refuses x) t = not (liveIn t)
 
-looks-up : (L : Ledger ℕ) (t : Trie) (o : Written) → L ≡ asLedger t → WithinRules (width ipv4) L → written ipv4 L ≡ o → Quiet o t
-  → LooksUp L o
+looks-up : (L : Ledger ℕ) (t : Trie) (o : Written) → L ≡ asLedger t → WithinRules (width ipv4) L → written ipv4 L ≡ o
+    → quietIn o t ≡ true → LooksUp L o
 unfolding hopOf
 looks-up L t (writes T) same ok e q =
     elim (by-test (isHeld (L []))) [
-    inl h ↦
-      let f : writes (smallestTable ipv4 L) ≡ writes T = rw h at e in
-      let g : smallestTable ipv4 L ≡ T = cc in
-      subst (ForwardsAs ipv4 L) g (smallest-for ipv4 L ok h .agrees)
-    | inr h ↦
-      let f : refuses noDefault ≡ writes T = rw h at e in
-      absurd (let z : _≡_ {A = ℕ} 0 1 = cc in omega arith) ]
+      | inl h ↦
+          let f : writes (smallestTable ipv4 L) ≡ writes T = rw h at e in
+          let g : smallestTable ipv4 L ≡ T = cc in
+          subst (ForwardsAs ipv4 L) g (smallest-for ipv4 L ok h .agrees)
+      | inr h ↦
+          let f : refuses noDefault ≡ writes T = rw h at e in
+          absurd (let z : _≡_ {A = ℕ} 0 1 = cc in omega arith)
+    ]
 looks-up L t (refuses x) same ok e q = λ a.
-    ap (λ M. hopOf ipv4 M a) (same ∙ fun-ext (dead t q)) ∙ longest-nothing noRoute (bitsOf (width ipv4) a)
+    ap (λ M. hopOf ipv4 M a) (same ∙ fun-ext (dead t (not-true (liveIn t) q))) ∙ longest-nothing noRoute (bitsOf (width ipv4) a)
 
--- THE CASES, COMPUTED on tries: their slots, their results, and that nothing is held where nothing is written
-abbrev Computes : Case → Type 0
-Computes c = (1 ≤ c .slots) × (resultIn (afterIn c) ≡ c .result) × Quiet (c .result .output) (afterIn c .trie)
+-- what the trie shows of a case, and what it has to show
+pub record Shown : Type 0 where
+  pub result : Result
+  pub quiet : Bool
+  pub lent : Bool
 
-holds : (c : Case) → Computes c → Holds c
-holds c p =
+abbrev shown : Case → Shown
+shown c = record { result = resultIn (afterIn c); quiet = quietIn (c .result .output) (afterIn c .trie); lent = leb 1 (c .slots) }
+
+abbrev wanted : Case → Shown
+wanted c = record { result = c .result; quiet = true; lent = true }
+
+holds : (c : Case) → shown c ≡ wanted c → Holds c
+holds c e =
     let a = after-in c in
-    let kept = updated-kept ipv4 (c .slots) nothing (printAll ipv4 (c .records))
-          (record { within = nothing-within (width ipv4); fits = omega (arith, needs-nothing ℕ (width ipv4), p .0) }) in
-    let answers = result-in c ∙ p .1 in
+    let lent = leb-true 1 (c .slots) (ap (λ s. s .lent) e) in
+    let first : Kept (width ipv4) (c .slots) nothing = record { within = nothing-within (width ipv4); fits = omega (arith, needs-nothing ℕ (width ipv4)) } in
+    let kept = updated-kept ipv4 (c .slots) nothing (printAll ipv4 (c .records)) first in
+    let answers = result-in c ∙ ap (λ s. s .result) e in
     record {
       answers = answers;
       lookups = looks-up (after c .ledger) (afterIn c .trie) (c .result .output) (ap (λ x. x .ledger) (a .0)) (kept .within)
-        (ap (λ x. x .output) answers) (p .2) }
+          (ap (λ x. x .output) answers) (ap (λ s. s .quiet) e);
+    }
 
-computed : Each Computes cases
-unfolding read
-computed =
-    ((omega arith, refl, refl), -- A
-    ((omega arith, refl, tt), -- B
-    ((omega arith, refl, tt), -- C
-    ((omega arith, refl, tt), -- D
-    ((omega arith, refl, tt), -- E
-    ((omega arith, refl, tt), -- F
-    ((omega arith, refl, tt), -- G
-    ((omega arith, refl, tt), -- H
-    ((omega arith, refl, tt), -- I
-    ((omega arith, refl, tt), -- J
-    ((omega arith, refl, tt), -- J in 32 slots
-    ((omega arith, refl, refl), -- K
-    tt))))))))))))
+-- THE WHOLE TABLE, COMPUTED
+computed : map shown cases ≡ map wanted cases
+unfolding read strayBits
+computed = refl
 
 -- EVERY CASE HOLDS
 pub cases-hold : Each Holds cases
-cases-hold = each-map Computes Holds holds cases computed
+cases-hold = each-map (λ c. shown c ≡ wanted c) Holds holds cases (each-of-map shown wanted cases computed)

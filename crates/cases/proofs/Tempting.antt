@@ -8,7 +8,7 @@ use native.Mathlib.Omega.{arith}
 use lib.ListN.{length}
 use Rattle.theory.specs.Ledger.{Ledger, Entry, _via_, load}
 use Rattle.rules.specs.Numbers.{ipv4}
-use Rattle.rules.specs.Records.{read, printTable}
+use Rattle.rules.specs.Records.{read, strayBits, printTable}
 use Rattle.rules.specs.Plain.{hopOf}
 use Rattle.rules.specs.Writing.{written, writes, ForwardsAs, SmallestFor}
 use Rattle.cases.specs.Trie.{asLedger}
@@ -26,7 +26,7 @@ copy-is-not-smallest s = let few : 4 ≤ 3 = s .fewest tableC (cases-hold .1 .1 
 
 -- a writer that forgets the strings that were never held: E's 0* is lost, and address 0 goes to the wrong neighbour
 pub forgetful-does-not-agree : ForwardsAs ipv4 (after caseE .ledger) (heldOnly (after caseE .ledger) tableE) → ⊥
-unfolding read hopOf
+unfolding read strayBits hopOf
 forgetful-does-not-agree agrees =
     let same = ap (λ a. a .ledger) (after-in caseE .0) in
     let agrees-in = subst (λ L. ForwardsAs ipv4 L (heldOnly L tableE)) same agrees in

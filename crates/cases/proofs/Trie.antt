@@ -53,19 +53,19 @@ bare-is (node o l r) e = never e refl
 
 -- proofs go by the shape: bare, a node of no width with nothing below, or a node with two parts
 module _ (n : ℕ) (P : ℕ → Trie → Type 0)
-  (on-bare : (w : ℕ) → P w bare)
-  (on-end : (o : Option ℕ) → hopBelow n o ≡ true → P zero (node o bare bare))
-  (on-node : (w : ℕ) (o : Option ℕ) (l r : Trie) → hopBelow n o ≡ true → P w l → P w r → P (suc w) (node o l r)) where
+    (on-bare : (w : ℕ) → P w bare)
+    (on-end : (o : Option ℕ) → hopBelow n o ≡ true → P zero (node o bare bare))
+    (on-node : (w : ℕ) (o : Option ℕ) (l r : Trie) → hopBelow n o ≡ true → P w l → P w r → P (suc w) (node o l r)) where
   by-shape : (w : ℕ) (t : Trie) → within n w t ≡ true → P w t
   by-shape w bare e = on-bare w
   by-shape zero (node o l r) e =
-    let a = and-both (hopBelow n o) (isBare l && isBare r) e in
-    let b = and-both (isBare l) (isBare r) (a .1) in
-    subst₂ (λ x y. P zero (node o x y)) (sym (bare-is l (b .0))) (sym (bare-is r (b .1))) (on-end o (a .0))
+      let a = and-both (hopBelow n o) (isBare l && isBare r) e in
+      let b = and-both (isBare l) (isBare r) (a .1) in
+      subst₂ (λ x y. P zero (node o x y)) (sym (bare-is l (b .0))) (sym (bare-is r (b .1))) (on-end o (a .0))
   by-shape (suc w) (node o l r) e =
-    let a = and-both (hopBelow n o) (within n w l && within n w r) e in
-    let b = and-both (within n w l) (within n w r) (a .1) in
-    on-node w o l r (a .0) (by-shape w l (b .0)) (by-shape w r (b .1))
+      let a = and-both (hopBelow n o) (within n w l && within n w r) e in
+      let b = and-both (within n w l) (within n w r) (a .1) in
+      on-node w o l r (a .0) (by-shape w l (b .0)) (by-shape w r (b .1))
 
 -- Slots.
 abbrev CountsAs : ℕ → Trie → Type 0
@@ -75,9 +75,9 @@ pub counts-in : (n w : ℕ) (t : Trie) → within n w t ≡ true → CountsAs w 
 counts-in n = by-shape n CountsAs (λ w. (live-nothing ℕ w, used-nothing ℕ w))
     (λ o h. elim o as (λ o. CountsAs zero (node o bare bare)) [ none ↦ (refl, refl) | some x ↦ (refl, refl) ])
     (λ w o l r h p q.
-      let a : live (suc w) (asLedger (node o l r)) ≡ liveIn (node o l r) =
-            live-down w (asLedger (node o l r)) ∙ ap₂ (λ b c. isHeld o || (b || c)) (p .0) (q .0) in
-      (a, used-down w (asLedger (node o l r)) ∙ ap₂ (λ b k. cond b 1 0 + k) a (ap₂ _+_ (p .1) (q .1))))
+    let a : live (suc w) (asLedger (node o l r)) ≡ liveIn (node o l r) =
+    live-down w (asLedger (node o l r)) ∙ ap₂ (λ b c. isHeld o || (b || c)) (p .0) (q .0) in
+    (a, used-down w (asLedger (node o l r)) ∙ ap₂ (λ b k. cond b 1 0 + k) a (ap₂ _+_ (p .1) (q .1))))
 
 pub needs-in : (n w : ℕ) (t : Trie) → within n w t ≡ true → needs w (asLedger t) ≡ needsIn t
 needs-in n w bare e = needs-nothing ℕ w
@@ -107,19 +107,20 @@ module _ (n : ℕ) where
   bare-set w d l = (only-length n d, set-of-leaves n w (trieLeaves bare d) (λ a. only d) (λ a e. bare-leaves d a) ∙ set-throughout n w (only d) ∙ sym (only-in n d l))
 
   joined : (t u : Trie) (w d : ℕ) → SetAs w t → SetAs w u → d < n
-    → (length (joinIn (setIn n t d) (setIn n u d)) ≡ n)
-    × (join n (setOf n w (trieLeaves t d)) (setOf n w (trieLeaves u d)) ≡ member (joinIn (setIn n t d) (setIn n u d)))
+      → (length (joinIn (setIn n t d) (setIn n u d)) ≡ n)
+      × (join n (setOf n w (trieLeaves t d)) (setOf n w (trieLeaves u d)) ≡ member (joinIn (setIn n t d) (setIn n u d)))
   joined t u w d p q l =
-    let a = p d l in
-    let b = q d l in
-    (join-length n (setIn n t d) (setIn n u d) (a .0) (b .0),
-    ap₂ (join n) (a .1) (b .1) ∙ sym (join-in n (setIn n t d) (setIn n u d) (a .0) (b .0)))
+      let a = p d l in
+      let b = q d l in (
+        join-length n (setIn n t d) (setIn n u d) (a .0) (b .0),
+        ap₂ (join n) (a .1) (b .1) ∙ sym (join-in n (setIn n t d) (setIn n u d) (a .0) (b .0)),
+      )
 
   end-set : (o : Option ℕ) → hopBelow n o ≡ true → SetAs zero (node o bare bare)
   end-set o h d l =
-    let e = orElse o d in
-    let j = joined bare bare zero e (bare-set zero) (bare-set zero) (below-else n o d h l) in
-    (j .0, sym (join-same n (only e) (only e) refl) ∙ j .1)
+      let e = orElse o d in
+      let j = joined bare bare zero e (bare-set zero) (bare-set zero) (below-else n o d h l) in
+      (j .0, sym (join-same n (only e) (only e) refl) ∙ j .1)
 
   -- the rule at a string, by vectors
   module _ (xs : List Bool) (x : Hops) (sized : length xs ≡ n) (is : x ≡ member xs) (c : ℕ) where
@@ -134,38 +135,38 @@ module _ (n : ℕ) where
 
   bare-table : (w : ℕ) → TableAs w bare
   bare-table w d c l =
-    table-of-leaves n w (trieLeaves bare d) (λ a. only d) c (λ a e. bare-leaves d a)
-    ∙ table-throughout n (only d) w c (only-allowed n d l .member)
-    ∙ ap here (entry-in (onlyIn n d) (only d) (only-length n d) (sym (only-in n d l)) c)
+      table-of-leaves n w (trieLeaves bare d) (λ a. only d) c (λ a e. bare-leaves d a)
+      ∙ table-throughout n (only d) w c (only-allowed n d l .member)
+      ∙ ap here (entry-in (onlyIn n d) (only d) (only-length n d) (sym (only-in n d l)) c)
 
   -- a node with nothing below it: its children have no entries
   end-table : (o : Option ℕ) → hopBelow n o ≡ true → TableAs zero (node o bare bare)
   end-table o h d c l =
-    let e = orElse o d in
-    let m = below-else n o d h l in
-    let xs = setIn n (node o bare bare) d in
-    let j = end-set o h d l in
-    let is : only e ≡ member xs = j .1 in
-    let chosen : only e (chooseIn xs c) ≡ true =
-          subst (λ (k : ℕ). only e k ≡ true) (choose-in xs (only e) (j .0) is c) (choose-member n (only e) c (only-allowed n e m)) in
-    let quiet : entryIn (onlyIn n e) (chooseIn xs c) ≡ none =
-          ap (λ (x : Hops). cond (x (chooseIn xs c)) none (some (leastIn (onlyIn n e)))) (only-in n e m) ∙ rw chosen in
-    ap here (entry-in xs (only e) (j .0) is c) ∙ sym (append-nil (here (entryIn xs c)))
-    ∙ ap (λ v. here (entryIn xs c) ++ (under false (here v) ++ under true (here v))) (sym quiet)
+      let e = orElse o d in
+      let m = below-else n o d h l in
+      let xs = setIn n (node o bare bare) d in
+      let j = end-set o h d l in
+      let is : only e ≡ member xs = j .1 in
+      let chosen : only e (chooseIn xs c) ≡ true =
+      subst (λ (k : ℕ). only e k ≡ true) (choose-in xs (only e) (j .0) is c) (choose-member n (only e) c (only-allowed n e m)) in
+      let quiet : entryIn (onlyIn n e) (chooseIn xs c) ≡ none =
+      ap (λ (x : Hops). cond (x (chooseIn xs c)) none (some (leastIn (onlyIn n e)))) (only-in n e m) ∙ rw chosen in
+      ap here (entry-in xs (only e) (j .0) is c) ∙ sym (append-nil (here (entryIn xs c)))
+      ∙ ap (λ v. here (entryIn xs c) ++ (under false (here v) ++ under true (here v))) (sym quiet)
 
   node-table : (w : ℕ) (o : Option ℕ) (t u : Trie) → hopBelow n o ≡ true → SetAs w t × TableAs w t → SetAs w u × TableAs w u
-    → TableAs (suc w) (node o t u)
+      → TableAs (suc w) (node o t u)
   node-table w o t u h p q d c l =
-    let e = orElse o d in
-    let m = below-else n o d h l in
-    let xs = setIn n (node o t u) d in
-    let x = setOf n (suc w) (trieLeaves (node o t u) d) in
-    let j = joined t u w e (p .0) (q .0) m in
-    ap₂ (λ v k. here v ++ (under false (table n w (trieLeaves t e) k) ++ under true (table n w (trieLeaves u e) k)))
-    (entry-in xs x (j .0) (j .1) c) (choose-in xs x (j .0) (j .1) c)
-    ∙ ap₂ (λ es fs. here (entryIn xs c) ++ (under false es ++ under true fs)) (p .1 e (chooseIn xs c) m) (q .1 e (chooseIn xs c) m)
+      let e = orElse o d in
+      let m = below-else n o d h l in
+      let xs = setIn n (node o t u) d in
+      let x = setOf n (suc w) (trieLeaves (node o t u) d) in
+      let j = joined t u w e (p .0) (q .0) m in
+      ap₂ (λ v k. here v ++ (under false (table n w (trieLeaves t e) k) ++ under true (table n w (trieLeaves u e) k)))
+      (entry-in xs x (j .0) (j .1) c) (choose-in xs x (j .0) (j .1) c)
+      ∙ ap₂ (λ es fs. here (entryIn xs c) ++ (under false es ++ under true fs)) (p .1 e (chooseIn xs c) m) (q .1 e (chooseIn xs c) m)
 
   pub table-in : (w : ℕ) (t : Trie) → within n w t ≡ true → SetAs w t × TableAs w t
   table-in = by-shape n (λ w t. SetAs w t × TableAs w t) (λ w. (bare-set w, bare-table w))
-    (λ o h. (end-set o h, end-table o h))
-    (λ w o t u h p q. ((λ d m. joined t u w (orElse o d) (p .0) (q .0) (below-else n o d h m)), node-table w o t u h p q))
+      (λ o h. (end-set o h, end-table o h))
+      (λ w o t u h p q. ((λ d m. joined t u w (orElse o d) (p .0) (q .0) (below-else n o d h m)), node-table w o t u h p q))

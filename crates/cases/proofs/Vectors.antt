@@ -69,16 +69,18 @@ module _ (n : ℕ) where
 
   pub join-length : (xs ys : List Bool) → length xs ≡ n → length ys ≡ n → length (joinIn xs ys) ≡ n
   join-length xs ys p q =
-    elim (by-test (someIn (bothIn xs ys))) [
-    inl e ↦ rw e (both-length xs ys (p ∙ sym q) ∙ q)
-    | inr e ↦ rw e (either-length xs ys (p ∙ sym q) ∙ q) ]
+      elim (by-test (someIn (bothIn xs ys))) [
+        | inl e ↦ rw e (both-length xs ys (p ∙ sym q) ∙ q)
+        | inr e ↦ rw e (either-length xs ys (p ∙ sym q) ∙ q)
+      ]
 
   pub join-in : (xs ys : List Bool) → length xs ≡ n → length ys ≡ n → member (joinIn xs ys) ≡ join n (member xs) (member ys)
   join-in xs ys p q =
-    let m = fun-ext (member-both xs ys) in
-    let test : someIn (bothIn xs ys) ≡ some-below n (common (member xs) (member ys)) =
-          some-in n (bothIn xs ys) (both-length xs ys (p ∙ sym q) ∙ q) ∙ ap (some-below n) m in
-    elim (by-test (some-below n (common (member xs) (member ys)))) [
-    inl e ↦ ap (λ b. member (cond b (bothIn xs ys) (eitherIn xs ys))) (test ∙ e) ∙ m ∙ sym (join-meets n (member xs) (member ys) e)
-    | inr e ↦
-      ap (λ b. member (cond b (bothIn xs ys) (eitherIn xs ys))) (test ∙ e) ∙ fun-ext (member-either xs ys) ∙ sym (join-apart n (member xs) (member ys) e) ]
+      let m = fun-ext (member-both xs ys) in
+      let test : someIn (bothIn xs ys) ≡ some-below n (common (member xs) (member ys)) =
+      some-in n (bothIn xs ys) (both-length xs ys (p ∙ sym q) ∙ q) ∙ ap (some-below n) m in
+      elim (by-test (some-below n (common (member xs) (member ys)))) [
+        | inl e ↦ ap (λ b. member (cond b (bothIn xs ys) (eitherIn xs ys))) (test ∙ e) ∙ m ∙ sym (join-meets n (member xs) (member ys) e)
+        | inr e ↦
+            ap (λ b. member (cond b (bothIn xs ys) (eitherIn xs ys))) (test ∙ e) ∙ fun-ext (member-either xs ys) ∙ sym (join-apart n (member xs) (member ys) e)
+      ]

@@ -33,7 +33,8 @@ resultOf a = record {
   refusal = a .refusal;
   count = a .count;
   needed = needs (width ipv4) (a .ledger);
-  output = written ipv4 (a .ledger) }
+  output = written ipv4 (a .ledger);
+}
 
 -- lookups: a written table answers as the ledger does; where none is written in these cases nothing is held, and every
 -- lookup answers 0
@@ -125,12 +126,12 @@ cases =
     ∷ all-taken 64 3 (announces * 1 ∷ announces 0* 2 ∷ announces 1* 2 ∷ []) 3 (writes (* via 2 ∷ []))
     -- G: F, then withdraw 0*
     ∷ all-taken 64 4 (announces * 1 ∷ announces 0* 2 ∷ announces 1* 2 ∷ withdraws 0* ∷ []) 2
-      (writes (* via 1 ∷ 1* via 2 ∷ []))
+    (writes (* via 1 ∷ 1* via 2 ∷ []))
     -- H
     ∷ all-taken 64 2 (announces * 5 ∷ announces ten/8 5 ∷ []) 9 (writes (* via 5 ∷ []))
     -- I
     ∷ all-taken 64 3 (announces * 1 ∷ announces 01* 2 ∷ announces 10* 3 ∷ []) 5
-      (writes (* via 1 ∷ 01* via 2 ∷ 10* via 3 ∷ []))
+    (writes (* via 1 ∷ 01* via 2 ∷ 10* via 3 ∷ []))
     -- J in 33 slots, and in 32
     ∷ all-taken 33 2 (announces * 1 ∷ announces last/32 2 ∷ []) 33 (writes (* via 1 ∷ last/32 via 2 ∷ []))
     ∷ refused-with 32 9 (announces * 1 ∷ announces last/32 2 ∷ []) 1 1 (writes (* via 1 ∷ []))

@@ -15,7 +15,6 @@ pub data Place : Type 0 where
   _over_ : ℕ → ℕ → Place
 
 infixl 90 _over_
-
 abbrev pub Row : Type 0
 Row = List ℕ
 
@@ -76,6 +75,7 @@ rows (suc n) hops = grow hops (rows n hops)
   where
     withHop : ℕ → List Row → List Row
     withHop h rs = map (λ r. h ∷ r) rs
+
     grow : ℕ → List Row → List Row
     grow zero rs = []
     grow (suc h) rs = grow h rs ++ withHop (suc h) rs

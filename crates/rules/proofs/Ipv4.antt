@@ -34,7 +34,7 @@ module _ (slots : ℕ) (lent : 1 ≤ slots) (L : Ledger ℕ) (reached : Reached 
 
   -- .. no list of entries that agrees has fewer, ..
   pub no-fewer : (es : List Entry) → ((x : ℕ) → x < 4294967296 → hopOf ipv4 (load es) x ≡ hopOf ipv4 L x)
-    → length (smallestTable ipv4 L) ≤ length es
+      → length (smallestTable ipv4 L) ≤ length es
   no-fewer = smallest .fewest
 
   -- .. and its records, looked up as a list, answer as the ledger does
@@ -42,14 +42,14 @@ module _ (slots : ℕ) (lent : 1 ≤ slots) (L : Ledger ℕ) (reached : Reached 
   reads-back = scanned-table ipv4 (smallestTable ipv4 L) (smallest .proper) (smallest .real-hops)
 
   pub looked-up : (x : ℕ) → x < 4294967296
-    → lookedUp ipv4 (printTable ipv4 (smallestTable ipv4 L)) x ≡ record { refusal = none; hop = hopOf ipv4 L x; place = 0 }
+      → lookedUp ipv4 (printTable ipv4 (smallestTable ipv4 L)) x ≡ record { refusal = none; hop = hopOf ipv4 L x; place = 0 }
   unfolding lookedUp
   looked-up x l =
-    let answer : Scanned → Answer =
-          λ s. record { refusal = s .refusal; hop = cond (isHeld (s .refusal)) 0 (hopOf ipv4 (load (s .entries)) x); place = s .place } in
-    ap answer reads-back ∙ ap (λ h. record { refusal = none; hop = h; place = 0 }) (agrees-everywhere x l)
+      let answer : Scanned → Answer =
+      λ s. record { refusal = s .refusal; hop = cond (isHeld (s .refusal)) 0 (hopOf ipv4 (load (s .entries)) x); place = s .place } in
+      ap answer reads-back ∙ ap (λ h. record { refusal = none; hop = h; place = 0 }) (agrees-everywhere x l)
 
 -- two ledgers that forward alike write the same bytes
 pub same-bytes : (L M : Ledger ℕ) → ((x : ℕ) → x < 4294967296 → hopOf ipv4 L x ≡ hopOf ipv4 M x)
-  → printTable ipv4 (smallestTable ipv4 L) ≡ printTable ipv4 (smallestTable ipv4 M)
+    → printTable ipv4 (smallestTable ipv4 L) ≡ printTable ipv4 (smallestTable ipv4 M)
 same-bytes L M alike = ap (printTable ipv4) (forward-alike ipv4 L M alike)

@@ -41,10 +41,11 @@ or-none false b e = (refl, e)
 meaning-proper : (w : ℕ) (f : Fields) → badHopFor (f .action) (f .hop) ≡ false → ProperChange w (meaning w f)
 meaning-proper w f good =
     elim (by-test (eqb (f .action) announceAction)) [
-    inl e ↦
-      let in-range = or-none (ltb (f .hop) lowestHop) (ltb highestHop (f .hop)) (rw e at good) in
-      rw e (prefix-short w (f .size) (f .address), ltb-false _ _ (in-range .0), ltb-false _ _ (in-range .1))
-    | inr e ↦ rw e (prefix-short w (f .size) (f .address)) ]
+      | inl e ↦
+          let in-range = or-none (ltb (f .hop) lowestHop) (ltb highestHop (f .hop)) (rw e at good) in
+          rw e (prefix-short w (f .size) (f .address), ltb-false _ _ (in-range .0), ltb-false _ _ (in-range .1))
+      | inr e ↦ rw e (prefix-short w (f .size) (f .address))
+    ]
 
 pub read-proper : (u : Use) (k : ℕ) (r : List ℕ) (c : Change) → read u k r ≡ means c → ProperChange (width k) c
 unfolding read
@@ -59,37 +60,41 @@ pub record Kept (w slots : ℕ) (L : Ledger ℕ) : Type 0 where
   pub fits : needs w L ≤ slots
 
 announce-within : (w : ℕ) (L : Ledger ℕ) (p : Bits) (h : ℕ) → WithinRules w L → ProperChange w (announces p h)
-  → WithinRules w (announce L p h)
+    → WithinRules w (announce L p h)
 announce-within w L p h ok proper q g e =
     elim (by-test (same p q)) [
-    inl s ↦
-      let f : some h ≡ some g = rw s at e in
-      let r : h ≡ g = cc in
-      subst₂ (λ t k. ProperChange w (announces t k)) (same-true p q s) r proper
-    | inr s ↦ ok q g (rw s at e) ]
+      | inl s ↦
+          let f : some h ≡ some g = rw s at e in
+          let r : h ≡ g = cc in
+          subst₂ (λ t k. ProperChange w (announces t k)) (same-true p q s) r proper
+      | inr s ↦ ok q g (rw s at e)
+    ]
 
 withdraw-within : (w : ℕ) (L : Ledger ℕ) (p : Bits) → WithinRules w L → WithinRules w (withdraw L p)
 withdraw-within w L p ok q g e =
     elim (by-test (same p q)) [
-    inl s ↦ let f : none ≡ some g = rw s at e in absurd (let z : _≡_ {A = ℕ} 0 1 = cc in omega arith)
-    | inr s ↦ ok q g (rw s at e) ]
+      | inl s ↦ let f : none ≡ some g = rw s at e in absurd (let z : _≡_ {A = ℕ} 0 1 = cc in omega arith)
+      | inr s ↦ ok q g (rw s at e)
+    ]
 
 room-kept : (w slots : ℕ) (L M : Ledger ℕ) → WithinRules w L → ifRoom w slots L ≡ taken M → Kept w slots M
 room-kept w slots L M ok e =
     elim (by-test (leb (needs w L) slots)) [
-    inl r ↦
-      let f : taken L ≡ taken M = rw r at e in
-      let q : L ≡ M = cc in
-      subst (Kept w slots) q (record { within = ok; fits = leb-true _ _ r })
-    | inr r ↦ let f : refused noSlots ≡ taken M = rw r at e in absurd (let z : _≡_ {A = ℕ} 0 1 = cc in omega arith) ]
+      | inl r ↦
+          let f : taken L ≡ taken M = rw r at e in
+          let q : L ≡ M = cc in
+          subst (Kept w slots) q (record { within = ok; fits = leb-true _ _ r })
+      | inr r ↦ let f : refused noSlots ≡ taken M = rw r at e in absurd (let z : _≡_ {A = ℕ} 0 1 = cc in omega arith)
+    ]
 
 pub change-kept : (w slots : ℕ) (L M : Ledger ℕ) (c : Change) → WithinRules w L → ProperChange w c → change w slots L c ≡ taken M
-  → Kept w slots M
+    → Kept w slots M
 change-kept w slots L M (announces p h) ok proper e = room-kept w slots (announce L p h) M (announce-within w L p h ok proper) e
 change-kept w slots L M (withdraws p) ok proper e =
     elim (by-test (isHeld (L p))) [
-    inl h ↦ room-kept w slots (withdraw L p) M (withdraw-within w L p ok) (rw h at e)
-    | inr h ↦ let f : refused notHeld ≡ taken M = rw h at e in absurd (let z : _≡_ {A = ℕ} 0 1 = cc in omega arith) ]
+      | inl h ↦ room-kept w slots (withdraw L p) M (withdraw-within w L p ok) (rw h at e)
+      | inr h ↦ let f : refused notHeld ≡ taken M = rw h at e in absurd (let z : _≡_ {A = ℕ} 0 1 = cc in omega arith)
+    ]
 
 -- the readings' meanings are proper
 abbrev pub Sound : ℕ → Reading → Type 0
@@ -100,12 +105,12 @@ apply-kept w slots L M (means c) ok sound e = change-kept w slots L M c (ok .wit
 apply-kept w slots L M (faulty x) ok sound e = absurd (let z : _≡_ {A = ℕ} 0 1 = cc in omega arith)
 
 next-kept : (w slots : ℕ) (L : Ledger ℕ) (o : Outcome) (rest : Ledger ℕ → Applied) → Kept w slots L
-  → ((M : Ledger ℕ) → o ≡ taken M → Kept w slots (rest M .ledger)) → Kept w slots (next L o rest .ledger)
+    → ((M : Ledger ℕ) → o ≡ taken M → Kept w slots (rest M .ledger)) → Kept w slots (next L o rest .ledger)
 next-kept w slots L (taken M) rest ok go = go M refl
 next-kept w slots L (refused x) rest ok go = ok
 
 pub applyAll-kept : (w slots : ℕ) (L : Ledger ℕ) (rs : List Reading) → Kept w slots L → Each (Sound w) rs
-  → Kept w slots (applyAll w slots L rs .ledger)
+    → Kept w slots (applyAll w slots L rs .ledger)
 applyAll-kept w slots L [] ok sound = ok
 applyAll-kept w slots L (r ∷ rs) ok sound =
     next-kept w slots L (apply w slots L r) (λ M. applyAll w slots M rs) ok
@@ -120,8 +125,9 @@ pub updated-kept : (k slots : ℕ) (L : Ledger ℕ) (bytes : List ℕ) → Kept 
 unfolding updated
 updated-kept k slots L bytes ok =
     elim (by-test (wholeRecords k bytes)) [
-    inl e ↦ rw e (applyAll-kept (width k) slots L (map (read update k) (recordsOf k bytes)) ok (readings-sound update k (recordsOf k bytes)))
-    | inr e ↦ rw e ok ]
+      | inl e ↦ rw e (applyAll-kept (width k) slots L (map (read update k) (recordsOf k bytes)) ok (readings-sound update k (recordsOf k bytes)))
+      | inr e ↦ rw e ok
+    ]
 
 pub nothing-within : (w : ℕ) → WithinRules w nothing
 nothing-within w p h e = absurd (let z : _≡_ {A = ℕ} 0 1 = cc in omega arith)
@@ -129,18 +135,20 @@ nothing-within w p h e = absurd (let z : _≡_ {A = ℕ} 0 1 = cc in omega arith
 -- THE COUNT is that of the records really applied.
 module _ (w slots : ℕ) (L : Ledger ℕ) (r : Reading) (rs : List Reading) where
   counted-step : (o : Outcome) → apply w slots L r ≡ o
-    → ((M : Ledger ℕ) → Counted w slots M rs (applyAll w slots M rs))
-    → Counted w slots L (r ∷ rs) (next L o (λ M. applyAll w slots M rs))
+      → ((M : Ledger ℕ) → Counted w slots M rs (applyAll w slots M rs))
+      → Counted w slots L (r ∷ rs) (next L o (λ M. applyAll w slots M rs))
   counted-step (taken M) e rest =
-    let c = rest M in
-    record {
-      really = rw e (ap oneMore (c .really));
-      ending = ⊎-map
-        (λ f. record { quiet = f .quiet; all = ap suc (f .all) })
-        (λ s. (s .0, record { number = s .1 .number; early = omega (arith, s .1 .early); there = s .1 .there })) (c .ending) }
+      let c = rest M in
+      record {
+        really = rw e (ap oneMore (c .really));
+        ending = ⊎-map
+            (λ f. record { quiet = f .quiet; all = ap suc (f .all) })
+            (λ s. (s .0, record { number = s .1 .number; early = omega (arith, s .1 .early); there = s .1 .there })) (c .ending);
+      }
   counted-step (refused x) e rest = record {
     really = refl;
-    ending = inr (x, record { number = refl; early = omega arith; there = e }) }
+    ending = inr (x, record { number = refl; early = omega arith; there = e });
+  }
 
 pub counted : (w slots : ℕ) (L : Ledger ℕ) (rs : List Reading) → Counted w slots L rs (applyAll w slots L rs)
 counted w slots L [] = record { really = refl; ending = inl record { quiet = refl; all = refl } }

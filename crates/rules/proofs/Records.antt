@@ -15,9 +15,9 @@ use borrow.Author.Tests.{le-ltb, eq-eqb}
 use Rattle.theory.specs.Bits.{Bits, bitsOf, addressOf, Each}
 use Rattle.theory.specs.Ledger.{Entry, _via_}
 use Rattle.theory.specs.Theorem.{Proper}
-use Rattle.theory.proofs.Address.{address-below, address-tail, prefix-of-address}
+use Rattle.theory.proofs.Address.{address-below, address-clear, prefix-of-address}
 use Rattle.rules.specs.Numbers.{width, recordBytes, hopBound, lowestHop, highestHop, announceAction, withdrawAction, badAction, badHop}
-use Rattle.rules.specs.Records.{number, bytesOf, Change, announces, withdraws, ProperChange, print, Fields, fieldsOf, Use, update, lookup, takesWithdrawals, badHopFor, fieldRules, firstFault, Reading, means, faulty, meaning, faultOr, read, pieces, recordsOf, wholeRecords, printAll, announcements, printTable}
+use Rattle.rules.specs.Records.{number, bytesOf, Change, announces, withdraws, ProperChange, print, Fields, fieldsOf, Use, update, lookup, strayBits, takesWithdrawals, badHopFor, fieldRules, firstFault, Reading, means, faulty, meaning, faultOr, read, pieces, recordsOf, wholeRecords, printAll, announcements, printTable}
 use Rattle.rules.specs.Plain.{Scanned, scanOn, scanAll, scanned}
 use Rattle.rules.specs.Writing.{RealHop}
 
@@ -52,37 +52,38 @@ module _ (k : ℕ) (p : Bits) (action hop : ℕ) (short : length p ≤ width k) 
 
   fields-print : fieldsOf k bytes ≡ plain
   fields-print =
-    let A = addressOf (width k) p in
-    let rest = length p ∷ action ∷ bytesOf 2 hop in
-    let l = bytes-length k A in
-    let at : (i : ℕ) → getD bytes (k + i) 0 ≡ getD rest i 0 =
-          λ i. subst (λ (j : ℕ). getD bytes (j + i) 0 ≡ getD rest i 0) l (getD-append-add (bytesOf k A) rest i 0) in
-    let address-is : number (take k bytes) ≡ A =
-          ap number (take-at (bytesOf k A) rest k l)
-          ∙ number-bytes k A (subst (λ (j : ℕ). A < j) (sym (pow-bytes k)) (address-below (width k) p)) in
-    let size-is : getD bytes k 0 ≡ length p = getD-at (bytesOf k A) (length p) (action ∷ bytesOf 2 hop) 0 k l in
-    let hop-is : number (take 2 (drop (k + 2) bytes)) ≡ hop =
-          ap (λ t. number (take 2 t)) (subst (λ (j : ℕ). drop (j + 2) bytes ≡ bytesOf 2 hop) l (drop-append-add (bytesOf k A) rest 2))
-          ∙ number-bytes 2 hop two in
-    λ i. record { address = address-is i; size = size-is i; action = at 1 i; hop = hop-is i }
+      let A = addressOf (width k) p in
+      let rest = length p ∷ action ∷ bytesOf 2 hop in
+      let l = bytes-length k A in
+      let at : (i : ℕ) → getD bytes (k + i) 0 ≡ getD rest i 0 =
+      λ i. subst (λ (j : ℕ). getD bytes (j + i) 0 ≡ getD rest i 0) l (getD-append-add (bytesOf k A) rest i 0) in
+      let address-is : number (take k bytes) ≡ A =
+      ap number (take-at (bytesOf k A) rest k l)
+      ∙ number-bytes k A (subst (λ (j : ℕ). A < j) (sym (pow-bytes k)) (address-below (width k) p)) in
+      let size-is : getD bytes k 0 ≡ length p = getD-at (bytesOf k A) (length p) (action ∷ bytesOf 2 hop) 0 k l in
+      let hop-is : number (take 2 (drop (k + 2) bytes)) ≡ hop =
+      ap (λ t. number (take 2 t)) (subst (λ (j : ℕ). drop (j + 2) bytes ≡ bytesOf 2 hop) l (drop-append-add (bytesOf k A) rest 2))
+      ∙ number-bytes 2 hop two in
+      λ i. record { address = address-is i; size = size-is i; action = at 1 i; hop = hop-is i }
 
   -- the rules find nothing amiss with the length and the bits behind it
   rules-print : (u : Use) → firstFault (fieldRules u (width k) (fieldsOf k bytes))
-    ≡ cond (not (eqb action announceAction || (takesWithdrawals u && eqb action withdrawAction))) (some badAction)
+      ≡ cond (not (eqb action announceAction || (takesWithdrawals u && eqb action withdrawAction))) (some badAction)
       (cond (badHopFor action hop) (some badHop) none)
+  unfolding strayBits
   rules-print u =
-    ap (λ f. firstFault (fieldRules u (width k) f)) fields-print
-    ∙ rw (le-ltb (width k) (length p) short, eq-eqb _ 0 (address-tail (width k) p short))
+      ap (λ f. firstFault (fieldRules u (width k) f)) fields-print
+      ∙ rw (le-ltb (width k) (length p) short, address-clear (width k) p short)
 
 pub read-announcement : (u : Use) (k : ℕ) (p : Bits) (h : ℕ) → ProperChange (width k) (announces p h)
-  → read u k (print k (announces p h)) ≡ means (announces p h)
+    → read u k (print k (announces p h)) ≡ means (announces p h)
 unfolding read
 read-announcement u k p h ok =
     let low : ltb h lowestHop ≡ false = le-ltb h lowestHop (ok .1) in
     let high : ltb highestHop h ≡ false = le-ltb highestHop h (ok .2) in
     let two : h < 65536 = omega (arith, ok .2) in
     let faultless : firstFault (fieldRules u (width k) (fieldsOf k (print k (announces p h)))) ≡ none =
-          rules-print k p announceAction h (ok .0) two u ∙ rw (low, high) in
+    rules-print k p announceAction h (ok .0) two u ∙ rw (low, high) in
     ap₂ faultOr faultless
     (ap (meaning (width k)) (fields-print k p announceAction h (ok .0) two) ∙ ap (λ t. announces t h) (prefix-of-address (width k) p (ok .0)))
 
@@ -123,7 +124,7 @@ whole-print k cs = eq-eqb _ 0 (ap (λ j. j % recordBytes k) (printAll-length k c
 
 -- what is printed reads back, record by record
 pub readings-print : (k : ℕ) (cs : List Change) → Each (ProperChange (width k)) cs
-  → map (read update k) (recordsOf k (printAll k cs)) ≡ map means cs
+    → map (read update k) (recordsOf k (printAll k cs)) ≡ map means cs
 readings-print k cs ok = ap (map (read update k)) (records-print k cs) ∙ go cs ok
   where
     go : (cs : List Change) → Each (ProperChange (width k)) cs → map (read update k) (map (print k) cs) ≡ map means cs
@@ -132,13 +133,13 @@ readings-print k cs ok = ap (map (read update k)) (records-print k cs) ∙ go cs
 
 -- a written table, looked up, is the list of its entries
 pub scanned-table : (k : ℕ) (es : List Entry) → Each (Proper hopBound (width k)) es → Each RealHop es
-  → scanned k (printTable k es) ≡ record { refusal = none; place = 0; entries = es }
+    → scanned k (printTable k es) ≡ record { refusal = none; place = 0; entries = es }
 unfolding scanned
 scanned-table k es ok real =
     rw (whole-print k (announcements es)) (ap (λ rs. scanAll (map (read lookup k) rs)) (records-print k (announcements es)) ∙ go es ok real)
   where
     go : (es : List Entry) → Each (Proper hopBound (width k)) es → Each RealHop es
-      → scanAll (map (read lookup k) (map (print k) (announcements es))) ≡ record { refusal = none; place = 0; entries = es }
+        → scanAll (map (read lookup k) (map (print k) (announcements es))) ≡ record { refusal = none; place = 0; entries = es }
     go [] ok real = refl
     go (p via h ∷ es) ok real =
-      ap₂ scanOn (read-announcement lookup k p h (ok .0 .0, real .0, let l = ok .0 .2 in omega arith)) (go es (ok .1) (real .1))
+        ap₂ scanOn (read-announcement lookup k p h (ok .0 .0, real .0, let l = ok .0 .2 in omega arith)) (go es (ok .1) (real .1))

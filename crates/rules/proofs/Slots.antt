@@ -18,7 +18,9 @@ module _ {A : Type 0} where
   some-append : (p : A → Bool) (xs ys : List A) → some-of p (xs ++ ys) ≡ (some-of p xs || some-of p ys)
   some-append p [] ys = refl
   some-append p (x ∷ xs) ys = elim (p x) as (λ b. cond b true (some-of p (xs ++ ys)) ≡ (cond b true (some-of p xs) || some-of p ys)) [
-    true ↦ refl | false ↦ some-append p xs ys ]
+    | true ↦ refl
+    | false ↦ some-append p xs ys
+  ]
 
 some-map : {A B : Type 0} (p : B → Bool) (f : A → B) (xs : List A) → some-of p (map f xs) ≡ some-of (λ x. p (f x)) xs
 some-map p f [] = refl
@@ -43,10 +45,10 @@ module _ {A : Type 0} where
 
   pub live-down : (w : ℕ) (L : Ledger A) → live (suc w) L ≡ (isHeld (L []) || (live w (below false L) || live w (below true L)))
   live-down w L =
-    ap (λ b. cond (isHeld (L [])) true b)
-    (some-append (λ t. isHeld (L t)) (map (λ s. false ∷ s) (strings w)) (map (λ s. true ∷ s) (strings w))
-    ∙ ap₂ _||_ (some-map (λ t. isHeld (L t)) (λ s. false ∷ s) (strings w)) (some-map (λ t. isHeld (L t)) (λ s. true ∷ s) (strings w)))
-    ∙ cond-or (isHeld (L [])) (live w (below false L) || live w (below true L))
+      ap (λ b. cond (isHeld (L [])) true b)
+      (some-append (λ t. isHeld (L t)) (map (λ s. false ∷ s) (strings w)) (map (λ s. true ∷ s) (strings w))
+      ∙ ap₂ _||_ (some-map (λ t. isHeld (L t)) (λ s. false ∷ s) (strings w)) (some-map (λ t. isHeld (L t)) (λ s. true ∷ s) (strings w)))
+      ∙ cond-or (isHeld (L [])) (live w (below false L) || live w (below true L))
 
   begins-down : (w : ℕ) (L : Ledger A) (b : Bool) → (λ s. beginsHeld (suc w) L (b ∷ s)) ≡ beginsHeld w (below b L)
   begins-down w L b = fun-ext (λ s. ap (λ v. some-of (λ t. isHeld (L (b ∷ (s ++ t)))) (strings v)) (suc-sub-suc w (length s)))
@@ -57,9 +59,9 @@ module _ {A : Type 0} where
 
   pub used-down : (w : ℕ) (L : Ledger A) → used (suc w) L ≡ cond (live (suc w) L) 1 0 + (used w (below false L) + used w (below true L))
   used-down w L =
-    count-down (beginsHeld (suc w) L) w
-    ∙ ap₂ _+_ (ap (λ v. cond (some-of (λ t. isHeld (L t)) (strings v)) 1 0) (sub-zero (suc w)))
-    (ap₂ (λ p q. count p (strings w) + count q (strings w)) (begins-down w L false) (begins-down w L true))
+      count-down (beginsHeld (suc w) L) w
+      ∙ ap₂ _+_ (ap (λ v. cond (some-of (λ t. isHeld (L t)) (strings v)) 1 0) (sub-zero (suc w)))
+      (ap₂ (λ p q. count p (strings w) + count q (strings w)) (begins-down w L false) (begins-down w L true))
 
   pub needs-zero : (L : Ledger A) → needs zero L ≡ 1
   unfolding needs
@@ -68,29 +70,29 @@ module _ {A : Type 0} where
   pub needs-down : (w : ℕ) (L : Ledger A) → needs (suc w) L ≡ 1 + (used w (below false L) + used w (below true L))
   unfolding needs
   needs-down w L =
-    count-down (λ s. isEmpty s || beginsHeld (suc w) L s) w
-    ∙ ap₂ (λ p q. 1 + (count p (strings w) + count q (strings w))) (begins-down w L false) (begins-down w L true)
+      count-down (λ s. isEmpty s || beginsHeld (suc w) L s) w
+      ∙ ap₂ (λ p q. 1 + (count p (strings w) + count q (strings w))) (begins-down w L false) (begins-down w L true)
 
 -- A ledger that holds no more needs no more slots: so a withdrawal is never refused for want of room.
 module _ {A : Type 0} (p q : A → Bool) (more : (x : A) → p x ≡ true → q x ≡ true) where
   count-mono : (xs : List A) → count p xs ≤ count q xs
   count-mono [] = omega arith
   count-mono (x ∷ xs) =
-    let r = count-mono xs in
-    elim (by-test (p x)) [ inl e ↦ rw (e, more x e) (omega arith) | inr e ↦ rw e (omega arith) ]
+      let r = count-mono xs in
+      elim (by-test (p x)) [ inl e ↦ rw (e, more x e) (omega arith) | inr e ↦ rw e (omega arith) ]
 
   some-mono : (xs : List A) → some-of p xs ≡ true → some-of q xs ≡ true
   some-mono [] h = never h refl
   some-mono (x ∷ xs) h =
-    elim (by-test (p x)) [ inl e ↦ rw (more x e) | inr e ↦ some-later (q x) (some-mono xs (rw e at h)) ]
+      elim (by-test (p x)) [ inl e ↦ rw (more x e) | inr e ↦ some-later (q x) (some-mono xs (rw e at h)) ]
 
 module _ {A : Type 0} (w : ℕ) (L M : Ledger A) (fewer : (s : Bits) → isHeld (M s) ≡ true → isHeld (L s) ≡ true) where
   pub needs-mono : needs w M ≤ needs w L
   unfolding needs
   needs-mono =
-    count-mono (λ s. isEmpty s || beginsHeld w M s) (λ s. isEmpty s || beginsHeld w L s)
-    (λ s. or-mono (isEmpty s) (some-mono (λ t. isHeld (M (s ++ t))) (λ t. isHeld (L (s ++ t))) (λ t. fewer (s ++ t)) (strings (w - length s))))
-    (strings w)
+      count-mono (λ s. isEmpty s || beginsHeld w M s) (λ s. isEmpty s || beginsHeld w L s)
+      (λ s. or-mono (isEmpty s) (some-mono (λ t. isHeld (M (s ++ t))) (λ t. isHeld (L (s ++ t))) (λ t. fewer (s ++ t)) (strings (w - length s))))
+      (strings w)
 
 pub withdraw-needs : {A : Type 0} (w : ℕ) (L : Ledger A) (p : Bits) → needs w (withdraw L p) ≤ needs w L
 withdraw-needs w L p =
@@ -122,15 +124,15 @@ module _ (A : Type 0) where
   used-alone zero (b ∷ p) x l = absurd (omega arith)
   used-alone (suc w) [] x l = used-down w (announce nothing [] x) ∙ rw (live-alone (suc w) [] x l, used-nothing w)
   used-alone (suc w) (true ∷ p) x l =
-    used-down w (announce nothing (true ∷ p) x) ∙ rw (live-alone (suc w) (true ∷ p) x l, used-nothing w, used-alone w p x (omega arith)) (omega arith)
+      used-down w (announce nothing (true ∷ p) x) ∙ rw (live-alone (suc w) (true ∷ p) x l, used-nothing w, used-alone w p x (omega arith)) (omega arith)
   used-alone (suc w) (false ∷ p) x l =
-    used-down w (announce nothing (false ∷ p) x) ∙ rw (live-alone (suc w) (false ∷ p) x l, used-nothing w, used-alone w p x (omega arith)) (omega arith)
+      used-down w (announce nothing (false ∷ p) x) ∙ rw (live-alone (suc w) (false ∷ p) x l, used-nothing w, used-alone w p x (omega arith)) (omega arith)
 
   pub needs-alone : (w : ℕ) (p : Bits) (x : A) → length p ≤ w → needs w (announce nothing p x) ≡ suc (length p)
   needs-alone zero [] x l = needs-zero (announce nothing [] x)
   needs-alone zero (b ∷ p) x l = absurd (omega arith)
   needs-alone (suc w) [] x l = needs-down w (announce nothing [] x) ∙ rw (used-nothing w)
   needs-alone (suc w) (true ∷ p) x l =
-    needs-down w (announce nothing (true ∷ p) x) ∙ rw (used-nothing w, used-alone w p x (omega arith)) (omega arith)
+      needs-down w (announce nothing (true ∷ p) x) ∙ rw (used-nothing w, used-alone w p x (omega arith)) (omega arith)
   needs-alone (suc w) (false ∷ p) x l =
-    needs-down w (announce nothing (false ∷ p) x) ∙ rw (used-nothing w, used-alone w p x (omega arith)) (omega arith)
+      needs-down w (announce nothing (false ∷ p) x) ∙ rw (used-nothing w, used-alone w p x (omega arith)) (omega arith)

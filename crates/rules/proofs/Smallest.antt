@@ -31,14 +31,14 @@ held-some (some x) e = (x, refl)
 -- Two ledgers give the same hop at every number of w bits exactly when they do at every string of w bits.
 module _ (k : ℕ) (L M : Ledger ℕ) where
   numbers-strings : ((x : ℕ) → x < 2 ^ width k → hopOf k L x ≡ hopOf k M x)
-    → (a : Bits) → length a ≡ width k → longest L noRoute a ≡ longest M noRoute a
+      → (a : Bits) → length a ≡ width k → longest L noRoute a ≡ longest M noRoute a
   unfolding hopOf
   numbers-strings same a e =
-    let q = bits-address (width k) a e in
-    subst (λ (t : Bits). longest L noRoute t ≡ longest M noRoute t) q (same (addressOf (width k) a) (address-below (width k) a))
+      let q = bits-address (width k) a e in
+      subst (λ (t : Bits). longest L noRoute t ≡ longest M noRoute t) q (same (addressOf (width k) a) (address-below (width k) a))
 
   strings-numbers : ((a : Bits) → length a ≡ width k → longest L noRoute a ≡ longest M noRoute a)
-    → (x : ℕ) → x < 2 ^ width k → hopOf k L x ≡ hopOf k M x
+      → (x : ℕ) → x < 2 ^ width k → hopOf k L x ≡ hopOf k M x
   unfolding hopOf
   strings-numbers same x l = same (bitsOf (width k) x) (bits-length (width k) x)
 
@@ -46,8 +46,8 @@ module _ (k : ℕ) (L M : Ledger ℕ) where
   pub forward-alike : ((x : ℕ) → x < 2 ^ width k → hopOf k L x ≡ hopOf k M x) → smallestTable k L ≡ smallestTable k M
   unfolding smallestTable
   forward-alike same =
-    theorem.of-forwarding hopBound (width k) (leaves only L noRoute) (leaves only M noRoute) noRoute
-    (λ a e. ap only (numbers-strings same a e))
+      theorem.of-forwarding hopBound (width k) (leaves only L noRoute) (leaves only M noRoute) noRoute
+      (λ a e. ap only (numbers-strings same a e))
 
 module _ (k : ℕ) (L : Ledger ℕ) (ok : WithinRules (width k) L) where
   hop-high : (a : Bits) → longest L noRoute a ≤ highestHop
@@ -59,9 +59,9 @@ module _ (k : ℕ) (L : Ledger ℕ) (ok : WithinRules (width k) L) where
   module _ (default : isHeld (L []) ≡ true) where
     hop-low : (a : Bits) → lowestHop ≤ longest L noRoute a
     hop-low a =
-      let h = held-some (L []) default in
-      subst (λ (g : ℕ). lowestHop ≤ g) (sym (longest-default L (h .0) noRoute (h .1) a))
-      (longest-keeps (λ g. lowestHop ≤ g) L (h .0) (λ p g e. ok p g e .1) (ok [] (h .0) (h .1) .1) a)
+        let h = held-some (L []) default in
+        subst (λ (g : ℕ). lowestHop ≤ g) (sym (longest-default L (h .0) noRoute (h .1) a))
+        (longest-keeps (λ g. lowestHop ≤ g) L (h .0) (λ p g e. ok p g e .1) (ok [] (h .0) (h .1) .1) a)
 
     not-none : (a : Bits) → length a ≡ width k → leaves only L noRoute a noRoute ≡ false
     not-none a e = ne-eqb noRoute (longest L noRoute a) (let h = hop-low a in omega arith)
@@ -73,19 +73,20 @@ module _ (k : ℕ) (L : Ledger ℕ) (ok : WithinRules (width k) L) where
     pub smallest-for : SmallestFor k L (smallestTable k L)
     unfolding smallestTable
     smallest-for =
-      let w = width k in
-      let F = leaves only L noRoute in
-      let T = table hopBound w F noRoute in
-      let all = theorem.smallest hopBound w F noRoute allowed in
-      record {
-        agrees = strings-numbers k (load T) L (λ a e. only-one (longest L noRoute a) _ (all .agrees a e));
-        fewest = λ es same. all .fewest es
-          (λ a e. subst (λ (h : ℕ). only (longest L noRoute a) h ≡ true) (sym (numbers-strings k (load es) L same a e)) (only-self (longest L noRoute a)));
-        at-most-held = theorem.at-most-held hopBound w only (λ h. h) L noRoute allowed (λ a e. only-self (longest L noRoute a));
-        sorted = all .sorted;
-        proper = all .proper;
-        real-hops = real T (avoids hopBound w F noRoute noRoute allowed not-none);
-        default =
-          ap isHeld (table-top hopBound w F noRoute)
-          ∙ ap (λ b. isHeld (cond b none (some (least hopBound (setOf hopBound w F))))) (set-avoids hopBound w F noRoute not-none);
-        again = theorem.writes-again hopBound w F noRoute allowed }
+        let w = width k in
+        let F = leaves only L noRoute in
+        let T = table hopBound w F noRoute in
+        let all = theorem.smallest hopBound w F noRoute allowed in
+        record {
+          agrees = strings-numbers k (load T) L (λ a e. only-one (longest L noRoute a) _ (all .agrees a e));
+          fewest = λ es same. all .fewest es
+              (λ a e. subst (λ (h : ℕ). only (longest L noRoute a) h ≡ true) (sym (numbers-strings k (load es) L same a e)) (only-self (longest L noRoute a)));
+          at-most-held = theorem.at-most-held hopBound w only (λ h. h) L noRoute allowed (λ a e. only-self (longest L noRoute a));
+          sorted = all .sorted;
+          proper = all .proper;
+          real-hops = real T (avoids hopBound w F noRoute noRoute allowed not-none);
+          default =
+              ap isHeld (table-top hopBound w F noRoute)
+              ∙ ap (λ b. isHeld (cond b none (some (least hopBound (setOf hopBound w F))))) (set-avoids hopBound w F noRoute not-none);
+          again = theorem.writes-again hopBound w F noRoute allowed;
+        }

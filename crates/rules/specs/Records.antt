@@ -2,10 +2,10 @@
 use mathlib.Core.Bool.{Bool, true, false, cond, not, _&&_, _||_}
 use mathlib.Core.List.{List, [], _∷_, _++_}
 use mathlib.Core.Option.{Option, none, some}
-use Prim.Native.Nat.{ℕ, zero, suc, _+_, _-_, _*_, _/_, _%_, _^_, _≤_}
+use Prim.Native.Nat.{ℕ, zero, suc, _+_, _*_, _/_, _%_, _^_, _≤_}
 use lib.Dec.{eqb, leb, ltb}
 use lib.ListN.{length, take, drop, getD}
-use Rattle.theory.specs.Bits.{Bits, bitsOf, addressOf}
+use Rattle.theory.specs.Bits.{Bits, bitsOf, addressOf, some-of}
 use Rattle.theory.specs.Ledger.{Entry, _via_}
 use Rattle.rules.specs.Numbers.{width, recordBytes, announceAction, withdrawAction, lowestHop, highestHop, badPrefixLength, strayBit, badAction, badHop}
 
@@ -45,7 +45,8 @@ fieldsOf k r = record {
   address = number (take k r);
   size = getD r k 0;
   action = getD r (k + 1) 0;
-  hop = number (take 2 (drop (k + 2) r)) }
+  hop = number (take 2 (drop (k + 2) r));
+}
 
 -- a list of records is an update, or it is looked up; a looked-up list has announcements alone
 pub data Use : Type 0 where
@@ -60,6 +61,9 @@ pub data Rule : Type 0 where
   _refusedBy_ : Bool → ℕ → Rule
 
 infixl 90 _refusedBy_
+-- is a bit of the address behind the length set?
+unfoldable pub strayBits : ℕ → ℕ → ℕ → Bool
+strayBits w size address = some-of (λ b. b) (drop size (bitsOf w address))
 
 abbrev pub badHopFor : ℕ → ℕ → Bool
 badHopFor action hop = cond (eqb action announceAction) (ltb hop lowestHop || ltb highestHop hop) (not (eqb hop 0))
@@ -67,7 +71,7 @@ badHopFor action hop = cond (eqb action announceAction) (ltb hop lowestHop || lt
 abbrev pub fieldRules : Use → ℕ → Fields → List Rule
 fieldRules u w f =
     ltb w (f .size) refusedBy badPrefixLength
-    ∷ not (eqb (f .address % 2 ^ (w - f .size)) 0) refusedBy strayBit
+    ∷ strayBits w (f .size) (f .address) refusedBy strayBit
     ∷ not (eqb (f .action) announceAction || (takesWithdrawals u && eqb (f .action) withdrawAction)) refusedBy badAction
     ∷ badHopFor (f .action) (f .hop) refusedBy badHop
     ∷ []

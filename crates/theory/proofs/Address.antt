@@ -1,15 +1,18 @@
 -- Strings and numbers: a string of w bits is the number of its address, and the other way round.
 use mathlib.Core.Path.{_≡_, refl, sym, ap, ap₂, _∙_, subst}
-use mathlib.Core.Bool.{Bool, true, false, cond}
+use mathlib.Core.Bool.{Bool, true, false, cond, not}
 use mathlib.Core.List.{List, [], _∷_, _++_}
+use mathlib.Core.Logic.{_⊎_, inl, inr, _≢_}
 use Prim.Native.Nat.{ℕ, zero, suc, _+_, _-_, _*_, _/_, _%_, _^_, _≤_, _<_}
 use native.Mathlib.Omega.{arith}
-use native.Mathlib.Nat.{suc-inj, zero-mod, zero-add, add-comm, one-mul, le-refl, add-mul-mod-self-right, suc-sub-suc, two-pow-succ, mul-assoc, mul-right-comm, pow-suc, add-mul-div-right, div-eq-of-lt, add-div-left}
-use lib.ListN.{length, take}
+use native.Mathlib.Nat.{suc-inj, sub-zero, mod-one, mod-lt, zero-mod, zero-mul, pow-succ', zero-add, add-comm, one-mul, le-refl, add-mul-mod-self-right, suc-sub-suc, two-pow-succ, mul-assoc, mul-right-comm, pow-suc, add-mul-div-right, div-eq-of-lt, add-div-left}
+use lib.ListN.{length, take, drop}
 use lib.Pow.{pow-pos, pow-add}
+use lib.Arith.{mod-mul}
 use lib.Dec.{eqb}
-use borrow.Author.Tests.{eq-eqb, ne-eqb, eqb-true}
-use Rattle.theory.specs.Bits.{Bits, bitsOf, addressOf}
+use borrow.Author.Tests.{ne-eqb, eqb-true, eqb-false}
+use Rattle.theory.specs.Bits.{Bits, bitsOf, addressOf, some-of}
+use Rattle.theory.proofs.Hops.{by-test}
 
 pub address-below : (w : ℕ) (s : Bits) → addressOf w s < 2 ^ w
 address-below zero s = omega arith
@@ -46,7 +49,7 @@ bit-add : (w v k r : ℕ) → w < v → (r + k * 2 ^ v) / 2 ^ w % 2 ≡ r / 2 ^ 
 bit-add w v k r l =
     let j = v - suc w in
     let e : k * 2 ^ v ≡ (k * 2 ^ j * 2) * 2 ^ w =
-          ap (λ i. k * 2 ^ i) (omega arith) ∙ ap (λ p. k * p) (pow-add 2 j (suc w)) ∙ shuffle k (2 ^ j) (2 ^ w) (pow-suc 2 w) in
+    ap (λ i. k * 2 ^ i) (omega arith) ∙ ap (λ p. k * p) (pow-add 2 j (suc w)) ∙ shuffle k (2 ^ j) (2 ^ w) (pow-suc 2 w) in
     ap (λ p. (r + p) / 2 ^ w % 2) e
     ∙ ap (λ q. q % 2) (add-mul-div-right r (k * 2 ^ j * 2) (pow-pos w))
     ∙ add-mul-mod-self-right (r / 2 ^ w) (k * 2 ^ j) 2
@@ -82,3 +85,34 @@ bits-address zero [] e = refl
 bits-address zero (b ∷ a) e = absurd (omega arith)
 bits-address (suc w) [] e = absurd (omega arith)
 bits-address (suc w) (b ∷ a) e = bits-down w b a ∙ ap (λ t. b ∷ t) (bits-address w a (suc-inj e))
+
+-- Bits behind a length: none is set exactly when the number over 2 ^ (w - length) leaves nothing.
+bits-drop : (w l x : ℕ) → l ≤ w → drop l (bitsOf w x) ≡ bitsOf (w - l) x
+bits-drop w zero x h = ap (λ v. bitsOf v x) (sym (sub-zero w))
+bits-drop zero (suc l) x h = absurd (omega arith)
+bits-drop (suc w) (suc l) x h = bits-drop w l x (omega arith) ∙ ap (λ v. bitsOf v x) (sym (suc-sub-suc w l))
+
+bits-set : (v x : ℕ) → some-of (λ b. b) (bitsOf v x) ≡ not (eqb (x % 2 ^ v) 0)
+bits-set zero x = ap (λ k. not (eqb k 0)) (sym (mod-one x))
+bits-set (suc v) x =
+    let q = x / 2 ^ v % 2 in
+    let small = mod-lt (x / 2 ^ v) {m = 2} (omega arith) in
+    let digits = ap (λ k. x % k) (pow-succ' 2 v) ∙ mod-mul x {m = 2} {c = 2 ^ v} (omega arith) (pow-pos v) in
+    elim (by-test (eqb q 1)) [
+      | inl e ↦
+          let one = eqb-true q 1 e in
+          let some : x % 2 ^ suc v ≢ 0 = λ z. omega (arith, digits, ap (λ k. k * 2 ^ v) one, pow-pos v) in
+          ap (λ b. cond b true (some-of (λ b. b) (bitsOf v x))) e ∙ sym (ap not (ne-eqb (x % 2 ^ suc v) 0 some))
+      | inr e ↦
+          let other = eqb-false q 1 e in
+          let none : q ≡ 0 = omega arith in
+          let rest : x % 2 ^ suc v ≡ x % 2 ^ v = digits ∙ ap (λ k. k * 2 ^ v + x % 2 ^ v) none ∙ rw (zero-mul (2 ^ v)) (zero-add (x % 2 ^ v)) in
+          ap (λ b. cond b true (some-of (λ b. b) (bitsOf v x))) e ∙ bits-set v x ∙ sym (ap (λ k. not (eqb k 0)) rest)
+    ]
+
+pub bits-behind : (w l x : ℕ) → l ≤ w → some-of (λ b. b) (drop l (bitsOf w x)) ≡ not (eqb (x % 2 ^ (w - l)) 0)
+bits-behind w l x h = ap (some-of (λ b. b)) (bits-drop w l x h) ∙ bits-set (w - l) x
+
+-- so a prefix's address has none
+pub address-clear : (w : ℕ) (s : Bits) → length s ≤ w → some-of (λ b. b) (drop (length s) (bitsOf w (addressOf w s))) ≡ false
+address-clear w s l = bits-behind w (length s) (addressOf w s) l ∙ ap (λ k. not (eqb k 0)) (address-tail w s l)

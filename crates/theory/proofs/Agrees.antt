@@ -42,9 +42,9 @@ after-other (p via h ∷ es) = after-other es
 module _ (o : Option ℕ) (es fs : List Entry) where
   pub after-parts : (b : Bool) → after b (here o ++ (under false es ++ under true fs)) ≡ cond b fs es
   after-parts true =
-    after-here true o _ ∙ after-append true (under false es) _ ∙ ap₂ _++_ (after-other es .0) (after-under true fs)
+      after-here true o _ ∙ after-append true (under false es) _ ∙ ap₂ _++_ (after-other es .0) (after-under true fs)
   after-parts false =
-    after-here false o _ ∙ after-append false (under false es) _ ∙ ap₂ _++_ (after-under false es) (after-other fs .1) ∙ append-nil es
+      after-here false o _ ∙ after-append false (under false es) _ ∙ ap₂ _++_ (after-under false es) (after-other fs .1) ∙ append-nil es
 
 load-under : (b : Bool) (L : Ledger ℕ) (es : List Entry) → loadOnto L (under b es) [] ≡ L []
 load-under b L [] = refl
@@ -67,8 +67,8 @@ entry-choose n x d = elim (by-test (x d)) [ inl e ↦ rw e | inr e ↦ rw e ]
 
 -- Lookup in a table, one bit down.
 pub table-down : (n w : ℕ) (F : Leaves) (d : ℕ) (b : Bool) (a : Bits)
-  → longest (load (table n (suc w) F d)) d (b ∷ a)
-  ≡ longest (load (table n w (half b F) (choose n (setOf n (suc w) F) d))) (choose n (setOf n (suc w) F) d) a
+    → longest (load (table n (suc w) F d)) d (b ∷ a)
+    ≡ longest (load (table n w (half b F) (choose n (setOf n (suc w) F) d))) (choose n (setOf n (suc w) F) d) a
 table-down n w F d b a =
     let o = entry n (setOf n (suc w) F) d in
     let c = choose n (setOf n (suc w) F) d in

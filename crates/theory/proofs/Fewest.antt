@@ -62,27 +62,29 @@ module _ (n : ℕ) (x y : Hops) (ok-x : Allowed n x) (ok-y : Allowed n y) where
   -- a hop of the join is missed by one child where they are apart, and by none where they meet
   split-miss : (c : ℕ) → join n x y c ≡ true → split n x y ≡ miss x c + miss y c
   split-miss c m =
-    elim (by-test (some-below n (common x y))) [
-    inl e ↦ rw e (common-miss c .1 (rw (join-meets n x y e) at m))
-    | inr e ↦ let u = hit (union x y) c (rw (join-apart n x y e) at m) in
-        let s = apart-miss e c in rw e (omega arith) ]
+      elim (by-test (some-below n (common x y))) [
+        | inl e ↦ rw e (common-miss c .1 (rw (join-meets n x y e) at m))
+        | inr e ↦ let u = hit (union x y) c (rw (join-apart n x y e) at m) in
+            let s = apart-miss e c in rw e (omega arith)
+      ]
 
   -- what any list pays for a string: k entries of its own, after which c is in force where d was
   split-pays : (k c d : ℕ) → (c ≡ d) ⊎ (1 ≤ k) → miss (join n x y) d + split n x y ≤ k + (miss x c + miss y c)
   split-pays k c d h =
-    elim (by-test (some-below n (common x y))) [
-    inl e ↦ rw (e, join-meets n x y e)
-        (⊎-elim (λ q. let s = common-miss c .0 in rw (← q) (omega arith))
-        (λ l. let s = miss-le (common x y) d in omega arith) h)
-    | inr e ↦ rw (e, join-apart n x y e)
-        (let s = apart-miss e c in
-        ⊎-elim (λ q. rw (← q) (omega arith)) (λ l. let t = miss-le (union x y) d in omega arith) h) ]
+      elim (by-test (some-below n (common x y))) [
+        | inl e ↦ rw (e, join-meets n x y e)
+            (⊎-elim (λ q. let s = common-miss c .0 in rw (← q) (omega arith))
+            (λ l. let s = miss-le (common x y) d in omega arith) h)
+        | inr e ↦ rw (e, join-apart n x y e)
+            (let s = apart-miss e c in
+            ⊎-elim (λ q. rw (← q) (omega arith)) (λ l. let t = miss-le (union x y) d in omega arith) h)
+      ]
 
 here-count : (n : ℕ) (x : Hops) (d : ℕ) → length (here (entry n x d)) ≡ miss x d
 here-count n x d = elim (by-test (x d)) [ inl e ↦ rw e | inr e ↦ rw e ]
 
 pub table-count : (n w : ℕ) (F : Leaves) (d : ℕ) → AllAllowed n w F
-  → length (table n w F d) ≡ miss (setOf n w F) d + splits n w F
+    → length (table n w F d) ≡ miss (setOf n w F) d + splits n w F
 table-count n zero F d ok = here-count n (F []) d ∙ omega arith
 table-count n (suc w) F d ok =
     let s = setOf n (suc w) F in
@@ -99,7 +101,7 @@ table-count n (suc w) F d ok =
     omega (arith, here-count n s d, length-map es (move false), length-map fs (move true))
 
 pub fewest : (n w : ℕ) (F : Leaves) (d : ℕ) → AllAllowed n w F → (es : List Entry) → Agrees w F d es
-  → miss (setOf n w F) d + splits n w F ≤ length es
+    → miss (setOf n w F) d + splits n w F ≤ length es
 fewest n zero F d ok es agrees =
     let l = split-length es in
     let a = agrees [] refl in
@@ -111,6 +113,6 @@ fewest n (suc w) F d ok es agrees =
     let n₀ = fewest n w (half false F) c ok₀ (after false es) (λ a e. rw (lookup-down es d false a) at (agrees (false ∷ a) (ap suc e))) in
     let n₁ = fewest n w (half true F) c ok₁ (after true es) (λ a e. rw (lookup-down es d true a) at (agrees (true ∷ a) (ap suc e))) in
     let p = split-pays n _ _ (set-allowed n w _ ok₀) (set-allowed n w _ ok₁) (at-top es) c d
-          (⊎-map (λ e. ap (λ v. orElse v d) e) (λ k. k) (load-top nothing es)) in
+    (⊎-map (λ e. ap (λ v. orElse v d) e) (λ k. k) (load-top nothing es)) in
     let l = split-length es in
     omega arith

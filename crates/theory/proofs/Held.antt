@@ -56,12 +56,12 @@ module _ {A : Type 0} (f : A → ℕ) where
   longest-picked L d (b ∷ a) = rw (picked-else (L []) d) (longest-picked (below b L) (orElse (L []) d) a)
 
   module _ (sets : A → Hops) (w : ℕ) (L : Ledger A) (d : A)
-    (picks : (a : Bits) → length a ≡ w → sets (longest L d a) (f (longest L d a)) ≡ true) where
+      (picks : (a : Bits) → length a ≡ w → sets (longest L d a) (f (longest L d a)) ≡ true) where
     pub held-agrees : Agrees w (leaves sets L d) (f d) (routes w (λ s. picked f (L s)))
     held-agrees a e =
-      let q = longest-upto (load (routes w (λ s. picked f (L s)))) (λ s. picked f (L s)) (f d) a
-            (λ s l. load-routes w (λ s. picked f (L s)) s (omega arith)) ∙ longest-picked L d a in
-      subst (λ (h : ℕ). sets (longest L d a) h ≡ true) (sym q) (picks a e)
+        let q = longest-upto (load (routes w (λ s. picked f (L s)))) (λ s. picked f (L s)) (f d) a
+        (λ s l. load-routes w (λ s. picked f (L s)) s (omega arith)) ∙ longest-picked L d a in
+        subst (λ (h : ℕ). sets (longest L d a) h ≡ true) (sym q) (picks a e)
 
     pub held-count : length (routes w (λ s. picked f (L s))) ≡ held w L
     held-count = routes-count w (λ s. picked f (L s)) ∙ ap (λ p. count p (strings w)) (fun-ext (λ s. picked-held (L s)))

@@ -1,7 +1,7 @@
 -- Laws of sets of hops: members, the least one, and what a join holds.
 use mathlib.Core.Path.{_≡_, refl, sym, ap, _∙_, subst, fun-ext}
 use mathlib.Core.Logic.{_⊎_, inl, inr, ⊎-elim}
-use mathlib.Core.Bool.{Bool, true, false, cond, _&&_, _||_, true≢false, and-self, or-self}
+use mathlib.Core.Bool.{Bool, true, false, cond, not, _&&_, _||_, true≢false, and-self, or-self}
 use Prim.Native.Nat.{ℕ, zero, suc, _<_, _≤_}
 use native.Mathlib.Omega.{arith}
 use borrow.Author.Tests.{eqb-true, eq-eqb}
@@ -14,6 +14,10 @@ by-test false = inr refl
 
 pub never : {A : Type 0} {b : Bool} → b ≡ true → b ≡ false → A
 never p q = absurd (true≢false (sym p ∙ q))
+
+pub not-true : (b : Bool) → not b ≡ true → b ≡ false
+not-true true e = sym e
+not-true false e = refl
 
 pub and-both : (a b : Bool) → (a && b) ≡ true → (a ≡ true) × (b ≡ true)
 and-both true true e = (refl, refl)
@@ -42,15 +46,19 @@ least-member (suc n) x e =
 pub least-below : (n : ℕ) (x : Hops) → some-below n x ≡ true → least n x < n
 least-below zero x e = never e refl
 least-below (suc n) x e =
-    elim (by-test (x zero)) [ inl q ↦ rw q (omega arith)
-    | inr q ↦ let h = least-below n (λ j. x (suc j)) (rw q at e) in rw q (omega arith) ]
+    elim (by-test (x zero)) [
+      | inl q ↦ rw q (omega arith)
+      | inr q ↦ let h = least-below n (λ j. x (suc j)) (rw q at e) in rw q (omega arith)
+    ]
 
 pub least-least : (n : ℕ) (x : Hops) (k : ℕ) → x k ≡ true → least n x ≤ k
 least-least zero x k e = omega arith
 least-least (suc n) x zero e = rw e (omega arith)
 least-least (suc n) x (suc k) e =
-    elim (by-test (x zero)) [ inl q ↦ rw q (omega arith)
-    | inr q ↦ let h = least-least n (λ j. x (suc j)) k e in rw q (omega arith) ]
+    elim (by-test (x zero)) [
+      | inl q ↦ rw q (omega arith)
+      | inr q ↦ let h = least-least n (λ j. x (suc j)) k e in rw q (omega arith)
+    ]
 
 -- The set of one hop.
 pub only-self : (h : ℕ) → only h h ≡ true
@@ -62,7 +70,8 @@ only-one h k e = eqb-true k h e
 pub only-allowed : (n h : ℕ) → h < n → Allowed n (only h)
 only-allowed n h l = record {
   member = some-below-of n (only h) h l (only-self h);
-  bounded = λ k e. rw (only-one h k e) l }
+  bounded = λ k e. rw (only-one h k e) l;
+}
 
 -- What a join holds: where the two meet it is the common part, else the union. Proofs go by which.
 module _ (n : ℕ) (x y : Hops) where
@@ -80,20 +89,24 @@ module _ (n : ℕ) (x y : Hops) where
 
   pub join-allowed : Allowed n x → Allowed n y → Allowed n (join n x y)
   join-allowed p q =
-    elim (by-test (some-below n (common x y))) [
-    inl e ↦ rw (join-meets e) record {
-      member = e;
-      bounded = λ k f. p .bounded k (and-both (x k) (y k) f .0) }
-    | inr e ↦ rw (join-apart e) record {
-      member = some-below-of n (union x y) (least n x) (least-below n x (p .member)) (rw (least-member n x (p .member)));
-      bounded = λ k f. ⊎-elim (p .bounded k) (q .bounded k) (or-either (x k) (y k) f) } ]
+      elim (by-test (some-below n (common x y))) [
+        | inl e ↦ rw (join-meets e) record {
+          member = e;
+          bounded = λ k f. p .bounded k (and-both (x k) (y k) f .0);
+        }
+        | inr e ↦ rw (join-apart e) record {
+          member = some-below-of n (union x y) (least n x) (least-below n x (p .member)) (rw (least-member n x (p .member)));
+          bounded = λ k f. ⊎-elim (p .bounded k) (q .bounded k) (or-either (x k) (y k) f);
+        }
+      ]
 
   pub join-avoids : (h : ℕ) → x h ≡ false → y h ≡ false → join n x y h ≡ false
   join-avoids h p q =
-    elim (by-test (some-below n (common x y))) [ inl e ↦ rw (join-meets e, p) | inr e ↦ rw (join-apart e, p, q) ]
+      elim (by-test (some-below n (common x y))) [ inl e ↦ rw (join-meets e, p) | inr e ↦ rw (join-apart e, p, q) ]
 
   pub join-same : x ≡ y → join n x y ≡ x
   join-same e =
-    elim (by-test (some-below n (common x y))) [
-    inl m ↦ join-meets m ∙ rw (← e) (fun-ext (λ k. and-self (x k)))
-    | inr m ↦ join-apart m ∙ rw (← e) (fun-ext (λ k. or-self (x k))) ]
+      elim (by-test (some-below n (common x y))) [
+        | inl m ↦ join-meets m ∙ rw (← e) (fun-ext (λ k. and-self (x k)))
+        | inr m ↦ join-apart m ∙ rw (← e) (fun-ext (λ k. or-self (x k)))
+      ]

@@ -12,7 +12,7 @@ use Rattle.theory.specs.Ledger.{Ledger, Entry, _via_, orElse, nothing, a
 
 -- Longest match reads no string longer than the address.
 pub longest-upto : {A : Type 0} (L M : Ledger A) (d : A) (a : Bits) → ((s : Bits) → length s ≤ length a → L s ≡ M s)
-  → longest L d a ≡ longest M d a
+    → longest L d a ≡ longest M d a
 longest-upto L M d [] h = rw (h [] (omega arith))
 longest-upto L M d (b ∷ a) h =
     rw (h [] (omega arith)) (longest-upto (below b L) (below b M) _ a (λ s l. h (b ∷ s) (omega arith)))
@@ -69,7 +69,7 @@ load-top L ((b ∷ p) via h ∷ es) = load-top (announce L (b ∷ p) h) es
 
 -- Lookup in a list, one bit down.
 pub lookup-down : (es : List Entry) (d : ℕ) (b : Bool) (a : Bits)
-  → longest (load es) d (b ∷ a) ≡ longest (load (after b es)) (orElse (load es []) d) a
+    → longest (load es) d (b ∷ a) ≡ longest (load (after b es)) (orElse (load es []) d) a
 lookup-down es d b a = ap (λ L. longest L (orElse (load es []) d) a) (below-load b nothing es)
 
 -- LONGEST MATCH IN DOCUMENT 01'S WORDS: the definition answers so, ..
@@ -95,12 +95,13 @@ module _ {A : Type 0} where
   longest-end L d (some x) e = inl record { size = 0; begins = omega arith; holds = e; no-longer = λ k p q. absurd (omega arith) }
 
   longest-step : (L : Ledger A) (d : A) (b : Bool) (a : Bits) (o : Option A) → L [] ≡ o → (x : A)
-    → IsLongest (below b L) (orElse o d) a x → IsLongest L d (b ∷ a) x
+      → IsLongest (below b L) (orElse o d) a x → IsLongest L d (b ∷ a) x
   longest-step L d b a o e x (inl f) = inl record {
     size = suc (f .size);
     begins = omega (arith, f .begins);
     holds = f .holds;
-    no-longer = longer }
+    no-longer = longer;
+  }
     where
       longer : (k : ℕ) → suc (f .size) < k → k ≤ suc (length a) → L (take k (b ∷ a)) ≡ none
       longer zero p q = absurd (omega arith)
@@ -114,7 +115,8 @@ module _ {A : Type 0} where
     size = 0;
     begins = omega arith;
     holds = e ∙ ap some (sym (m .default));
-    no-longer = longer }
+    no-longer = longer;
+  }
     where
       longer : (k : ℕ) → 0 < k → k ≤ suc (length a) → L (take k (b ∷ a)) ≡ none
       longer zero p q = absurd (omega arith)
@@ -127,10 +129,11 @@ module _ {A : Type 0} where
   -- .. and nothing else does
   one-longest : (L : Ledger A) (d : A) (a : Bits) (x y : A) → IsLongest L d a x → IsLongest L d a y → x ≡ y
   one-longest L d a x y (inl f) (inl g) =
-    elim (order (f .size) (g .size)) [
-    inl l ↦ none-some (g .holds) (f .no-longer (g .size) l (g .begins))
-    | inr (inl l) ↦ none-some (f .holds) (g .no-longer (f .size) l (f .begins))
-    | inr (inr e) ↦ same-some (sym (f .holds) ∙ ap (λ k. L (take k a)) e ∙ g .holds) ]
+      elim (order (f .size) (g .size)) [
+        | inl l ↦ none-some (g .holds) (f .no-longer (g .size) l (g .begins))
+        | inr (inl l) ↦ none-some (f .holds) (g .no-longer (f .size) l (f .begins))
+        | inr (inr e) ↦ same-some (sym (f .holds) ∙ ap (λ k. L (take k a)) e ∙ g .holds)
+      ]
   one-longest L d a x y (inl f) (inr m) = none-some (f .holds) (m .none-begins (f .size) (f .begins))
   one-longest L d a x y (inr m) (inl g) = none-some (g .holds) (m .none-begins (g .size) (g .begins))
   one-longest L d a x y (inr m) (inr k) = m .default ∙ sym (k .default)

@@ -24,15 +24,15 @@ module _ (n : ℕ) (x : Hops) where
   no-entry : (w c : ℕ) → x c ≡ true → table n w (λ a. x) c ≡ []
   no-entry zero c e = rw e
   no-entry (suc w) c e =
-    let s = set-throughout n (suc w) x in
-    let stays : choose n (setOf n (suc w) (λ a. x)) c ≡ c = ap (λ y. choose n y c) s ∙ rw e in
-    let t : table n w (λ a. x) (choose n (setOf n (suc w) (λ a. x)) c) ≡ [] = ap (table n w (λ a. x)) stays ∙ no-entry w c e in
-    ap₂ (λ y es. here (entry n y c) ++ (under false es ++ under true es)) s t ∙ rw e
+      let s = set-throughout n (suc w) x in
+      let stays : choose n (setOf n (suc w) (λ a. x)) c ≡ c = ap (λ y. choose n y c) s ∙ rw e in
+      let t : table n w (λ a. x) (choose n (setOf n (suc w) (λ a. x)) c) ≡ [] = ap (table n w (λ a. x)) stays ∙ no-entry w c e in
+      ap₂ (λ y es. here (entry n y c) ++ (under false es ++ under true es)) s t ∙ rw e
 
   pub table-throughout : (w c : ℕ) → some-below n x ≡ true → table n w (λ a. x) c ≡ here (entry n x c)
   table-throughout zero c m = refl
   table-throughout (suc w) c m =
-    let s = set-throughout n (suc w) x in
-    let d = choose n (setOf n (suc w) (λ a. x)) c in
-    let chosen : x d ≡ true = ap (λ y. x (choose n y c)) s ∙ elim (by-test (x c)) [ inl e ↦ rw e e | inr e ↦ rw e (least-member n x m) ] in
-    ap₂ (λ y es. here (entry n y c) ++ (under false es ++ under true es)) s (no-entry w d chosen) ∙ append-nil (here (entry n x c))
+      let s = set-throughout n (suc w) x in
+      let d = choose n (setOf n (suc w) (λ a. x)) c in
+      let chosen : x d ≡ true = ap (λ y. x (choose n y c)) s ∙ elim (by-test (x c)) [ inl e ↦ rw e e | inr e ↦ rw e (least-member n x m) ] in
+      ap₂ (λ y es. here (entry n y c) ++ (under false es ++ under true es)) s (no-entry w d chosen) ∙ append-nil (here (entry n x c))

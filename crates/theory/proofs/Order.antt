@@ -1,7 +1,7 @@
 -- The table is in order of address, then length, and its entries are proper.
 use mathlib.Core.Path.{_≡_, refl, sym, ap, ap₂, _∙_, subst}
 use mathlib.Core.Bool.{Bool, true, false, cond}
-use mathlib.Core.List.{List, [], _∷_, _++_}
+use mathlib.Core.List.{List, [], _∷_, _++_, map, head-eq-of-cons-eq, tail-eq-of-cons-eq}
 use mathlib.Core.Option.{Option, none, some}
 use mathlib.Core.Logic.{_⊎_, inl, inr, ⊎-elim, ⊎-map, _≢_}
 use Prim.Native.Nat.{ℕ, zero, suc, _+_, _≤_, _<_, _^_}
@@ -30,8 +30,13 @@ pub each-map : {A : Type 0} (P Q : A → Type 0) → ((x : A) → P x → Q x) �
 each-map P Q f [] p = tt
 each-map P Q f (x ∷ xs) p = (f x (p .0), each-map P Q f xs (p .1))
 
+-- two functions that are equal over a list are equal at each of its elements
+pub each-of-map : {A B : Type 0} (f g : A → B) (xs : List A) → map f xs ≡ map g xs → Each (λ x. f x ≡ g x) xs
+each-of-map f g [] e = tt
+each-of-map f g (x ∷ xs) e = (head-eq-of-cons-eq e, each-of-map f g xs (tail-eq-of-cons-eq e))
+
 each-under : (P Q : Entry → Type 0) (b : Bool) → ((e : Entry) → P e → Q (move b e)) → (es : List Entry)
-  → Each P es → Each Q (under b es)
+    → Each P es → Each Q (under b es)
 each-under P Q b f [] p = tt
 each-under P Q b f (e ∷ es) p = (f e (p .0), each-under P Q b f es (p .1))
 
@@ -60,24 +65,26 @@ sorted-under w b [] p = tt
 sorted-under w b (e ∷ es) p = (each-under (Before w e) (Before (suc w) (move b e)) b (before-move w b e) es (p .0), sorted-under w b es (p .1))
 
 sorted-parts : (w : ℕ) (o : Option ℕ) (es fs : List Entry) → Sorted w es → Sorted w fs
-  → Sorted (suc w) (here o ++ (under false es ++ under true fs))
+    → Sorted (suc w) (here o ++ (under false es ++ under true fs))
 sorted-parts w o es fs p q = go o
   where
     all-under : (h : ℕ) → Each (Before (suc w) ([] via h)) (under false es ++ under true fs)
     all-under h =
-      let P = Before (suc w) ([] via h) in
-      let U : Entry → Type 0 = λ e. Unit {0} in
-      let u : (gs : List Entry) → Each U gs = each-of (λ e. tt) in
-      each-append P (under false es) (under true fs)
-      (each-under U P false (λ e x. before-top w false h e) es (u es))
-      (each-under U P true (λ e x. before-top w true h e) fs (u fs))
+        let P = Before (suc w) ([] via h) in
+        let U : Entry → Type 0 = λ e. Unit {0} in
+        let u : (gs : List Entry) → Each U gs = each-of (λ e. tt) in
+        each-append P (under false es) (under true fs)
+        (each-under U P false (λ e x. before-top w false h e) es (u es))
+        (each-under U P true (λ e x. before-top w true h e) fs (u fs))
+
     both : Sorted (suc w) (under false es ++ under true fs)
     both =
-      let U : Entry → Type 0 = λ e. Unit {0} in
-      let u : (gs : List Entry) → Each U gs = each-of (λ e. tt) in
-      sorted-append (suc w) (under false es) (under true fs) (sorted-under w false es p) (sorted-under w true fs q)
-      (each-under U (λ e. Each (Before (suc w) e) (under true fs)) false
-      (λ e x. each-under U (Before (suc w) (move false e)) true (λ f y. before-halves w e f) fs (u fs)) es (u es))
+        let U : Entry → Type 0 = λ e. Unit {0} in
+        let u : (gs : List Entry) → Each U gs = each-of (λ e. tt) in
+        sorted-append (suc w) (under false es) (under true fs) (sorted-under w false es p) (sorted-under w true fs q)
+        (each-under U (λ e. Each (Before (suc w) e) (under true fs)) false
+        (λ e x. each-under U (Before (suc w) (move false e)) true (λ f y. before-halves w e f) fs (u fs)) es (u es))
+
     go : (o : Option ℕ) → Sorted (suc w) (here o ++ (under false es ++ under true fs))
     go none = both
     go (some h) = (all-under h, both)
@@ -95,8 +102,10 @@ proper-move n w b (s via h) p = (omega (arith, p .0), address-tail (suc w) (b �
 
 proper-here : (n w : ℕ) (x : Hops) (d : ℕ) → Allowed n x → Each (Proper n w) (here (entry n x d))
 proper-here n w x d ok =
-    elim (by-test (x d)) [ inl e ↦ rw e tt
-    | inr e ↦ rw e ((omega arith, address-tail w [] (omega arith), least-below n x (ok .member)), tt) ]
+    elim (by-test (x d)) [
+      | inl e ↦ rw e tt
+      | inr e ↦ rw e ((omega arith, address-tail w [] (omega arith), least-below n x (ok .member)), tt)
+    ]
 
 pub proper : (n w : ℕ) (F : Leaves) (d : ℕ) → AllAllowed n w F → Each (Proper n w) (table n w F d)
 proper n zero F d ok = proper-here n zero (F []) d (ok [] refl)
@@ -117,14 +126,16 @@ HopNot h (s via g) = g ≢ h
 
 avoids-here : (n h : ℕ) (x : Hops) (d : ℕ) → Allowed n x → x h ≡ false → Each (HopNot h) (here (entry n x d))
 avoids-here n h x d ok out =
-    elim (by-test (x d)) [ inl e ↦ rw e tt
-    | inr e ↦ rw e ((λ q. never (least-member n x (ok .member)) (ap x q ∙ out)), tt) ]
+    elim (by-test (x d)) [
+      | inl e ↦ rw e tt
+      | inr e ↦ rw e ((λ q. never (least-member n x (ok .member)) (ap x q ∙ out)), tt)
+    ]
 
 avoids-move : (h : ℕ) (b : Bool) (e : Entry) → HopNot h e → HopNot h (move b e)
 avoids-move h b (s via g) p = p
 
 pub avoids : (n w : ℕ) (F : Leaves) (d h : ℕ) → AllAllowed n w F → ((a : Bits) → length a ≡ w → F a h ≡ false)
-  → Each (HopNot h) (table n w F d)
+    → Each (HopNot h) (table n w F d)
 avoids n zero F d h ok out = avoids-here n h (F []) d (ok [] refl) (out [] refl)
 avoids n (suc w) F d h ok out =
     let P = HopNot h in

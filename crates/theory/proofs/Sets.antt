@@ -41,5 +41,8 @@ pub table-of-leaves : (n w : ℕ) (F G : Leaves) (d : ℕ) → ((a : Bits) → l
 table-of-leaves n zero F G d h = ap (λ x. here (entry n x d)) (h [] refl)
 table-of-leaves n (suc w) F G d h =
     let e = set-of-leaves n (suc w) F G h in
-    rw (e, table-of-leaves n w (half false F) (half false G) _ (λ a l. h (false ∷ a) (ap suc l)),
-        table-of-leaves n w (half true F) (half true G) _ (λ a l. h (true ∷ a) (ap suc l)))
+    rw (
+      e,
+      table-of-leaves n w (half false F) (half false G) _ (λ a l. h (false ∷ a) (ap suc l)),
+      table-of-leaves n w (half true F) (half true G) _ (λ a l. h (true ∷ a) (ap suc l)),
+    )

@@ -39,7 +39,7 @@ count-map p f (x ∷ xs) = ap (λ k. cond (p (f x)) 1 0 + k) (count-map p f xs)
 
 -- a count over all strings, one bit down
 pub count-down : (p : Bits → Bool) (w : ℕ)
-  → count p (strings (suc w)) ≡ cond (p []) 1 0 + (count (λ s. p (false ∷ s)) (strings w) + count (λ s. p (true ∷ s)) (strings w))
+    → count p (strings (suc w)) ≡ cond (p []) 1 0 + (count (λ s. p (false ∷ s)) (strings w) + count (λ s. p (true ∷ s)) (strings w))
 count-down p w =
     ap (λ k. cond (p []) 1 0 + k)
     (count-append p (map (λ s. false ∷ s) (strings w)) (map (λ s. true ∷ s) (strings w))
@@ -87,7 +87,7 @@ lines-under b L (s ∷ ss) =
     ap₂ _++_ (line-under b s (L (b ∷ s))) (lines-under b L ss) ∙ sym (under-append b (line s (L (b ∷ s))) (lines (below b L) ss))
 
 pub routes-down : (w : ℕ) (L : Ledger ℕ)
-  → routes (suc w) L ≡ line [] (L []) ++ (under false (routes w (below false L)) ++ under true (routes w (below true L)))
+    → routes (suc w) L ≡ line [] (L []) ++ (under false (routes w (below false L)) ++ under true (routes w (below true L)))
 routes-down w L =
     ap (λ t. line [] (L []) ++ t)
     (lines-append L (map (λ s. false ∷ s) (strings w)) (map (λ s. true ∷ s) (strings w))

@@ -27,7 +27,8 @@ module _ (n w : ℕ) (F : Leaves) (d : ℕ) (ok : AllAllowed n w F) where
     agrees = table-agrees n w F d ok;
     fewest = table-fewest;
     sorted = sorted n w F d;
-    proper = proper n w F d ok }
+    proper = proper n w F d ok;
+  }
 
   -- loading it and writing again gives the same list
   pub writes-again : table n w (leaves only (load (table n w F d)) d) d ≡ table n w F d
@@ -39,8 +40,8 @@ of-forwarding = table-of-leaves
 
 -- its count is never above the number of held routes, whatever hop is picked from what is held
 pub at-most-held : {A : Type 0} (n w : ℕ) (sets : A → Hops) (pick : A → ℕ) (L : Ledger A) (d : A)
-  → AllAllowed n w (leaves sets L d) → ((a : Bits) → length a ≡ w → sets (longest L d a) (pick (longest L d a)) ≡ true)
-  → length (table n w (leaves sets L d) (pick d)) ≤ held w L
+    → AllAllowed n w (leaves sets L d) → ((a : Bits) → length a ≡ w → sets (longest L d a) (pick (longest L d a)) ≡ true)
+    → length (table n w (leaves sets L d) (pick d)) ≤ held w L
 at-most-held n w sets pick L d ok picks =
     subst (λ (k : ℕ). length (table n w (leaves sets L d) (pick d)) ≤ k) (held-count pick sets w L d picks)
     (table-fewest n w (leaves sets L d) (pick d) ok (routes w (λ s. picked pick (L s))) (held-agrees pick sets w L d picks))

@@ -74,7 +74,6 @@ pub data Entry : Type 0 where
   _via_ : Bits → ℕ → Entry
 
 infixl 90 _via_
-
 -- the ledger that a list of announcements makes, in order: a later one for the same prefix wins
 abbrev pub loadOnto : Ledger ℕ → List Entry → Ledger ℕ
 loadOnto L [] = L
