@@ -15,7 +15,8 @@ use Rattle.theory.proofs.Order.{each-map, each-of-map}
 use Rattle.theory.proofs.OneHop.{longest-nothing}
 use Rattle.rules.specs.Numbers.{ipv4, width, hopBound, noRoute, noDefault}
 use Rattle.rules.specs.Records.{Reading, read, strayBits, update, recordsOf, printAll, wholeRecords}
-use Rattle.rules.specs.Plain.{Applied, applyAll, updated, needs, hopOf, WithinRules}
+use Rattle.rules.specs.Plain.{Applied, applyAll, updated, needs, WithinRules}
+use Rattle.rules.specs.Lookup.{hopOf}
 use Rattle.rules.specs.Writing.{Written, writes, refuses, written, smallestTable, ForwardsAs, SmallestFor}
 use Rattle.rules.proofs.Records.{whole-print}
 use Rattle.rules.proofs.Plain.{or-none, Kept, readings-sound, updated-kept, nothing-within}

@@ -9,7 +9,7 @@ use lib.ListN.{length}
 use Rattle.theory.specs.Ledger.{Ledger, Entry, _via_, load}
 use Rattle.rules.specs.Numbers.{ipv4}
 use Rattle.rules.specs.Records.{read, strayBits, printTable}
-use Rattle.rules.specs.Plain.{hopOf}
+use Rattle.rules.specs.Lookup.{hopOf}
 use Rattle.rules.specs.Writing.{written, writes, ForwardsAs, SmallestFor}
 use Rattle.cases.specs.Trie.{asLedger}
 use Rattle.cases.specs.Cases.{Case, after, resultOf, Holds, caseC, tableC, bytesC, copyOfC, caseE, tableE}

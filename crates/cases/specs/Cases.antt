@@ -9,7 +9,8 @@ use Rattle.theory.specs.Bits.{Bits, bitsOf}
 use Rattle.theory.specs.Ledger.{Ledger, Entry, _via_, nothing, load}
 use Rattle.rules.specs.Numbers.{ipv4, width, noRoute}
 use Rattle.rules.specs.Records.{Change, announces, withdraws, printAll}
-use Rattle.rules.specs.Plain.{Applied, updated, needs, hopOf}
+use Rattle.rules.specs.Plain.{Applied, updated, needs}
+use Rattle.rules.specs.Lookup.{hopOf}
 use Rattle.rules.specs.Writing.{Written, writes, refuses, written, ForwardsAs}
 
 -- what is to come of a list: its refusal, the count applied, the slots that the ledger then needs, and what is written

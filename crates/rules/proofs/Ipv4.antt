@@ -10,7 +10,8 @@ use lib.ListN.{length}
 use Rattle.theory.specs.Ledger.{Ledger, Entry, isHeld, nothing, load, held}
 use Rattle.rules.specs.Numbers.{ipv4, width}
 use Rattle.rules.specs.Records.{printTable}
-use Rattle.rules.specs.Plain.{Reached, at-first, after, updated, hopOf, Scanned, scanned, Answer, lookedUp, WithinRules, needs}
+use Rattle.rules.specs.Plain.{Reached, at-first, after, updated, WithinRules, needs}
+use Rattle.rules.specs.Lookup.{hopOf, Scanned, scanned, Answer, lookedUp}
 use Rattle.rules.specs.Writing.{smallestTable, SmallestFor}
 use Rattle.rules.proofs.Records.{scanned-table}
 use Rattle.rules.proofs.Plain.{Kept, nothing-within, updated-kept}

@@ -18,7 +18,7 @@ use Rattle.theory.specs.Theorem.{Proper}
 use Rattle.theory.proofs.Address.{address-below, address-clear, prefix-of-address}
 use Rattle.rules.specs.Numbers.{width, recordBytes, hopBound, lowestHop, highestHop, announceAction, withdrawAction, badAction, badHop}
 use Rattle.rules.specs.Records.{number, bytesOf, Change, announces, withdraws, ProperChange, print, Fields, fieldsOf, Use, update, lookup, strayBits, takesWithdrawals, badHopFor, fieldRules, firstFault, Reading, means, faulty, meaning, faultOr, read, pieces, recordsOf, wholeRecords, printAll, announcements, printTable}
-use Rattle.rules.specs.Plain.{Scanned, scanOn, scanAll, scanned}
+use Rattle.rules.specs.Lookup.{Scanned, scanOn, scanAll, scanned}
 use Rattle.rules.specs.Writing.{RealHop}
 
 -- Numbers and bytes.

@@ -21,7 +21,8 @@ use Rattle.theory.proofs.Order.{HopNot, avoids}
 use Rattle.theory.proofs.Address.{address-below, bits-length, bits-address}
 use Rattle.theory.proofs.Theorem as theorem
 use Rattle.rules.specs.Numbers.{width, hopBound, lowestHop, highestHop, noRoute}
-use Rattle.rules.specs.Plain.{hopOf, WithinRules}
+use Rattle.rules.specs.Plain.{WithinRules}
+use Rattle.rules.specs.Lookup.{hopOf}
 use Rattle.rules.specs.Writing.{smallestTable, ForwardsAs, RealHop, SmallestFor}
 
 held-some : (o : Option ℕ) → isHeld o ≡ true → (x : ℕ) × (o ≡ some x)

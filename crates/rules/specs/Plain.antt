@@ -1,17 +1,16 @@
--- THE PLAIN LEDGER: what a batch of records does to what is held, and what a list that is looked up answers.
+-- THE PLAIN LEDGER: the slots that it needs, and what a record and a list of records do to it.
 use mathlib.Core.Path.{_≡_}
 use mathlib.Core.Logic.{_⊎_}
 use mathlib.Core.Bool.{Bool, true, false, cond, _||_}
-use mathlib.Core.List.{List, [], _∷_, _++_}
+use mathlib.Core.List.{List, [], _∷_, _++_, map}
 use mathlib.Core.Option.{Option, none, some}
 use Prim.Native.Nat.{ℕ, zero, suc, _-_, _<_}
 use lib.Dec.{leb}
 use lib.ListN.{length, take, getD}
-use Rattle.theory.specs.Bits.{Bits, bitsOf, strings, count, some-of}
-use Rattle.theory.specs.Ledger.{Ledger, Entry, _via_, isHeld, nothing, announce, withdraw, longest, load}
-use Rattle.rules.specs.Numbers.{width, noRoute, badListLength, badAction, notHeld, noSlots}
-use mathlib.Core.List.{map}
-use Rattle.rules.specs.Records.{Change, announces, withdraws, ProperChange, Use, update, lookup, Reading, means, faulty, read, recordsOf, wholeRecords}
+use Rattle.theory.specs.Bits.{Bits, strings, count, some-of}
+use Rattle.theory.specs.Ledger.{Ledger, isHeld, nothing, announce, withdraw}
+use Rattle.rules.specs.Numbers.{width, badListLength, notHeld, noSlots}
+use Rattle.rules.specs.Records.{Change, announces, withdraws, ProperChange, update, Reading, means, faulty, read, recordsOf, wholeRecords}
 
 -- SLOTS NEEDED: 1 for the empty string, held or not, and 1 for each other string that begins or equals a held prefix
 abbrev pub isEmpty : Bits → Bool
@@ -88,42 +87,6 @@ updated k slots L bytes =
 pub data Reached (k slots : ℕ) : Ledger ℕ → Type 0 where
   at-first : Reached k slots nothing
   after : {L : Ledger ℕ} → Reached k slots L → (bytes : List ℕ) → Reached k slots (updated k slots L bytes .ledger)
-
--- THE HOP OF AN ADDRESS, a number: longest match, and 0 where no held prefix begins it
-unfoldable pub hopOf : ℕ → Ledger ℕ → ℕ → ℕ
-hopOf k L x = longest L noRoute (bitsOf (width k) x)
-
--- A LIST LOOKED UP is checked whole: its entries, or its first fault and the fault's place, counted from 0
-pub record Scanned : Type 0 where
-  pub refusal : Option ℕ
-  pub place : ℕ
-  pub entries : List Entry
-
-abbrev pub scanOn : Reading → Scanned → Scanned
-scanOn (faulty x) s = record { refusal = some x; place = 0; entries = [] }
-scanOn (means (withdraws p)) s = record { refusal = some badAction; place = 0; entries = [] }
-scanOn (means (announces p h)) s =
-    record { refusal = s .refusal; place = cond (isHeld (s .refusal)) (suc (s .place)) 0; entries = p via h ∷ s .entries }
-
-abbrev pub scanAll : List Reading → Scanned
-scanAll [] = record { refusal = none; place = 0; entries = [] }
-scanAll (r ∷ rs) = scanOn r (scanAll rs)
-
-unfoldable pub scanned : ℕ → List ℕ → Scanned
-scanned k bytes =
-    cond (wholeRecords k bytes) (scanAll (map (read lookup k) (recordsOf k bytes)))
-    (record { refusal = some badListLength; place = 0; entries = [] })
-
--- what a lookup answers: a refusal with hop 0 and the place, or the hop
-pub record Answer : Type 0 where
-  pub refusal : Option ℕ
-  pub hop : ℕ
-  pub place : ℕ
-
-unfoldable pub lookedUp : ℕ → List ℕ → ℕ → Answer
-lookedUp k bytes x =
-    let s = scanned k bytes in
-    record { refusal = s .refusal; hop = cond (isHeld (s .refusal)) 0 (hopOf k (load (s .entries)) x); place = s .place }
 
 -- What the record rules keep true of a ledger: each held route is one that a record can announce.
 abbrev pub WithinRules : ℕ → Ledger ℕ → Type 0

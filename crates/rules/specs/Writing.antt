@@ -10,7 +10,7 @@ use Rattle.theory.specs.Ledger.{Ledger, Entry, _via_, isHeld, load, held}
 use Rattle.theory.specs.Smallest.{table}
 use Rattle.theory.specs.Theorem.{leaves, Sorted, Proper}
 use Rattle.rules.specs.Numbers.{width, hopBound, lowestHop, noRoute, noDefault}
-use Rattle.rules.specs.Plain.{hopOf}
+use Rattle.rules.specs.Lookup.{hopOf}
 
 -- THE SMALLEST TABLE of a ledger: each address has the set that holds its one hop
 unfoldable pub smallestTable : ℕ → Ledger ℕ → List Entry

@@ -36,7 +36,7 @@ module _ {A : Type 0} where
   abbrev pub withdraw : Ledger A → Bits → Ledger A
   withdraw L p s = cond (same p s) none (L s)
 
-  -- what the ledger says of the strings that begin with a bit, and with a string
+  -- what the ledger says behind a first bit
   abbrev pub below : Bool → Ledger A → Ledger A
   below b L s = L (b ∷ s)
 
@@ -64,7 +64,7 @@ module _ {A : Type 0} where
   abbrev pub held : ℕ → Ledger A → ℕ
   held w L = count (λ s. isHeld (L s)) (strings w)
 
-  -- a ledger of hops out of a ledger of anything that a hop is picked from
+  -- the hop that is picked from what is held
   abbrev pub picked : (A → ℕ) → Option A → Option ℕ
   picked f none = none
   picked f (some x) = some (f x)
