@@ -87,7 +87,7 @@ module _ (k : ℕ) (L : Ledger ℕ) (ok : WithinRules (width k) L) where
           proper = all .proper;
           real-hops = real T (avoids hopBound w F noRoute noRoute allowed not-none);
           default =
-              ap isHeld (table-top hopBound w F noRoute)
-              ∙ ap (λ b. isHeld (cond b none (some (least hopBound (setOf hopBound w F))))) (set-avoids hopBound w F noRoute not-none);
+              table-top hopBound w F noRoute
+              ∙ ap (λ b. cond b none (some (least hopBound (setOf hopBound w F)))) (set-avoids hopBound w F noRoute not-none);
           again = theorem.writes-again hopBound w F noRoute allowed;
         }

@@ -2,12 +2,13 @@
 use mathlib.Core.Path.{_≡_}
 use mathlib.Core.Bool.{Bool, true, false, cond}
 use mathlib.Core.List.{List, [], _∷_}
+use mathlib.Core.Option.{some}
 use Prim.Native.Nat.{ℕ, _≤_, _<_, _^_}
 use lib.ListN.{length}
 use Rattle.theory.specs.Bits.{Bits, Each}
-use Rattle.theory.specs.Hops.{only}
+use Rattle.theory.specs.Hops.{only, least}
 use Rattle.theory.specs.Ledger.{Ledger, Entry, _via_, isHeld, load, held}
-use Rattle.theory.specs.Smallest.{table}
+use Rattle.theory.specs.Smallest.{setOf, table}
 use Rattle.theory.specs.Theorem.{leaves, Sorted, Proper}
 use Rattle.rules.specs.Numbers.{width, hopBound, lowestHop, noRoute, noDefault}
 use Rattle.rules.specs.Lookup.{hopOf}
@@ -43,7 +44,7 @@ pub record SmallestFor (k : ℕ) (L : Ledger ℕ) (T : List Entry) : Type 0 wher
   pub sorted : Sorted (width k) T
   pub proper : Each (Proper hopBound (width k)) T
   pub real-hops : Each RealHop T
-  -- the empty string has its entry, with a hop of its own
-  pub default : isHeld (load T []) ≡ true
+  -- the empty string always has its entry, with the least hop of its set
+  pub default : load T [] ≡ some (least hopBound (setOf hopBound (width k) (leaves only L noRoute)))
   -- loading it and writing again gives the same list
   pub again : smallestTable k (load T) ≡ T
