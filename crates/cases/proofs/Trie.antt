@@ -128,7 +128,7 @@ module _ (n : ℕ) where
     entry-in = ap (λ y. entry n y c) is ∙ ap (λ k. cond (member xs c) none (some k)) (sym (least-in n xs sized))
 
     choose-in : choose n x c ≡ chooseIn xs c
-    choose-in = ap (λ y. choose n y c) is ∙ ap (λ k. cond (member xs c) c k) (sym (least-in n xs sized))
+    choose-in = ap (λ o. orElse o c) entry-in
 
   abbrev TableAs : ℕ → Trie → Type 0
   TableAs w t = (d c : ℕ) → d < n → table n w (trieLeaves t d) c ≡ tableIn n t d c

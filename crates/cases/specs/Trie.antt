@@ -99,11 +99,11 @@ setIn n bare d = onlyIn n d
 setIn n (node o l r) d = joinIn (setIn n l (orElse o d)) (setIn n r (orElse o d))
 
 -- its table, where d is in force in the ledger and c in the table
-abbrev pub chooseIn : List Bool → ℕ → ℕ
-chooseIn xs c = cond (member xs c) c (leastIn xs)
-
 abbrev pub entryIn : List Bool → ℕ → Option ℕ
 entryIn xs c = cond (member xs c) none (some (leastIn xs))
+
+abbrev pub chooseIn : List Bool → ℕ → ℕ
+chooseIn xs c = orElse (entryIn xs c) c
 
 abbrev pub tableIn : ℕ → Trie → ℕ → ℕ → List Entry
 tableIn n bare d c = here (entryIn (onlyIn n d) c)

@@ -13,7 +13,6 @@ use Rattle.theory.specs.Hops.{Hops}
 use Rattle.theory.specs.Ledger.{Ledger, Entry, _via_, orElse, nothing, announce, below, longest, loadOnto, load}
 use Rattle.theory.specs.Smallest.{Leaves, half, setOf, choose, entry, here, under, table}
 use Rattle.theory.specs.Theorem.{AllAllowed, Agrees}
-use Rattle.theory.proofs.Hops.{by-test}
 use Rattle.theory.proofs.Longest.{after, lookup-down}
 use Rattle.theory.proofs.Sets.{half-allowed, choose-member}
 
@@ -61,10 +60,6 @@ top-parts (some h) es fs =
     ap (λ L. L []) (load-append (announce nothing [] h) (under false es) (under true fs))
     ∙ load-under true _ fs ∙ load-under false (announce nothing [] h) es
 
--- The hop in force from a string on is that of its entry, or else the one above.
-pub entry-choose : (n : ℕ) (x : Hops) (d : ℕ) → orElse (entry n x d) d ≡ choose n x d
-entry-choose n x d = elim (by-test (x d)) [ inl e ↦ rw e | inr e ↦ rw e ]
-
 -- Lookup in a table, one bit down.
 pub table-down : (n w : ℕ) (F : Leaves) (d : ℕ) (b : Bool) (a : Bits)
     → longest (load (table n (suc w) F d)) d (b ∷ a)
@@ -77,7 +72,7 @@ table-down n w F d b a =
     let halves : (b : Bool) → cond b fs es ≡ table n w (half b F) c = elim [ false ↦ refl | true ↦ refl ] in
     lookup-down (table n (suc w) F d) d b a
     ∙ ap₂ (λ t h. longest (load t) h a) (after-parts o es fs b ∙ halves b)
-    (ap (λ v. orElse v d) (top-parts o es fs) ∙ entry-choose n (setOf n (suc w) F) d)
+    (ap (λ v. orElse v d) (top-parts o es fs))
 
 pub top-here : (o : Option ℕ) → load (here o) [] ≡ o
 top-here none = refl
@@ -85,7 +80,7 @@ top-here (some h) = refl
 
 pub table-agrees : (n w : ℕ) (F : Leaves) (d : ℕ) → AllAllowed n w F → Agrees w F d (table n w F d)
 table-agrees n zero F d ok [] e =
-    rw (top-here (entry n (F []) d), entry-choose n (F []) d) (choose-member n (F []) d (ok [] refl))
+    rw (top-here (entry n (F []) d)) (choose-member n (F []) d (ok [] refl))
 table-agrees n zero F d ok (b ∷ a) e = absurd (omega arith)
 table-agrees n (suc w) F d ok [] e = absurd (omega arith)
 table-agrees n (suc w) F d ok (b ∷ a) e =

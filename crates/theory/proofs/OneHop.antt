@@ -3,13 +3,13 @@ use mathlib.Core.Path.{_≡_, refl, sym, ap, ap₂, _∙_, subst}
 use mathlib.Core.Bool.{Bool, true, false, cond}
 use mathlib.Core.List.{List, [], _∷_, _++_, append-nil}
 use mathlib.Core.Option.{Option, none, some}
-use mathlib.Core.Logic.{_⊎_, inl, inr}
 use Prim.Native.Nat.{ℕ, zero, suc}
 use Rattle.theory.specs.Bits.{Bits}
 use Rattle.theory.specs.Hops.{Hops, some-below, join}
 use Rattle.theory.specs.Ledger.{Ledger, Entry, nothing, longest}
 use Rattle.theory.specs.Smallest.{Leaves, half, setOf, choose, entry, here, under, table}
-use Rattle.theory.proofs.Hops.{by-test, join-same, least-member}
+use Rattle.theory.proofs.Hops.{join-same}
+use Rattle.theory.proofs.Sets.{choose-in}
 
 pub longest-nothing : {A : Type 0} (d : A) (a : Bits) → longest nothing d a ≡ d
 longest-nothing d [] = refl
@@ -34,5 +34,5 @@ module _ (n : ℕ) (x : Hops) where
   table-throughout (suc w) c m =
       let s = set-throughout n (suc w) x in
       let d = choose n (setOf n (suc w) (λ a. x)) c in
-      let chosen : x d ≡ true = ap (λ y. x (choose n y c)) s ∙ elim (by-test (x c)) [ inl e ↦ rw e e | inr e ↦ rw e (least-member n x m) ] in
+      let chosen : x d ≡ true = ap (λ y. x (choose n y c)) s ∙ choose-in n x c m in
       ap₂ (λ y es. here (entry n y c) ++ (under false es ++ under true es)) s (no-entry w d chosen) ∙ append-nil (here (entry n x c))

@@ -15,7 +15,7 @@ use Rattle.theory.specs.Smallest.{Leaves, half, setOf, choose, entry, he
 use Rattle.theory.specs.Theorem.{AllAllowed, Agrees}
 use Rattle.theory.proofs.Hops.{by-test, never, and-both, or-either, or-right, least-member, least-below, least-least, some-below-of, join-meets, join-apart, apart, only-one, only-self}
 use Rattle.theory.proofs.Sets.{half-allowed, set-allowed, choose-member}
-use Rattle.theory.proofs.Agrees.{table-down, top-here, entry-choose}
+use Rattle.theory.proofs.Agrees.{table-down, top-here}
 
 -- the leaves that a table gives: one hop each
 abbrev pub given : ℕ → List Entry → Leaves
@@ -80,7 +80,7 @@ given-half : (n w : ℕ) (F : Leaves) (d : ℕ) (b : Bool)
 given-half n w F d b = fun-ext (λ a. ap only (table-down n w F d b a))
 
 given-top : (n : ℕ) (x : Hops) (d : ℕ) → given d (here (entry n x d)) [] ≡ only (choose n x d)
-given-top n x d = ap only (ap (λ o. orElse o d) (top-here (entry n x d)) ∙ entry-choose n x d)
+given-top n x d = ap (λ o. only (orElse o d)) (top-here (entry n x d))
 
 given-set : (n w : ℕ) (F : Leaves) (d : ℕ) → AllAllowed n w F
     → Within (setOf n w (given d (table n w F d))) (setOf n w F)

@@ -6,7 +6,7 @@ use mathlib.Core.List.{List, [], _∷_, _++_}
 use Prim.Native.Nat.{ℕ, zero, suc, _+_}
 use lib.ListN.{length}
 use Rattle.theory.specs.Bits.{Bits}
-use Rattle.theory.specs.Hops.{Hops, join, Allowed}
+use Rattle.theory.specs.Hops.{Hops, some-below, join, Allowed}
 use Rattle.theory.specs.Theorem.{AllAllowed}
 use Rattle.theory.specs.Smallest.{Leaves, half, setOf, choose, entry, here, table}
 use Rattle.theory.proofs.Hops.{join-allowed, join-avoids, by-test, least-member}
@@ -27,8 +27,13 @@ set-avoids n (suc w) F h out =
     (set-avoids n w (half true F) h (λ a e. out (true ∷ a) (ap suc e)))
 
 -- The hop in force from a string on is in the string's set.
+pub choose-in : (n : ℕ) (x : Hops) (d : ℕ) → some-below n x ≡ true → x (choose n x d) ≡ true
+choose-in n x d has =
+    let least-is-in = least-member n x has in
+    elim (by-test (x d)) [ inl above-is-in ↦ rw above-is-in (search) | inr e ↦ rw e (search) ]
+
 pub choose-member : (n : ℕ) (x : Hops) (d : ℕ) → Allowed n x → x (choose n x d) ≡ true
-choose-member n x d ok = elim (by-test (x d)) [ inl e ↦ rw e e | inr e ↦ rw e (least-member n x (ok .member)) ]
+choose-member n x d ok = choose-in n x d (ok .member)
 
 -- The sets, and with them the table, depend on the leaves of w bits alone.
 pub set-of-leaves : (n w : ℕ) (F G : Leaves) → ((a : Bits) → length a ≡ w → F a ≡ G a) → setOf n w F ≡ setOf n w G

@@ -6,7 +6,7 @@ use mathlib.Core.Option.{Option, none, some}
 use Prim.Native.Nat.{ℕ, zero, suc, _-_}
 use lib.ListN.{length}
 use Rattle.theory.specs.Bits.{Bits}
-use Rattle.theory.specs.Ledger.{Ledger, Entry, _via_, line}
+use Rattle.theory.specs.Ledger.{Entry, _via_, orElse, line}
 use Rattle.theory.specs.Hops.{Hops, join, least}
 
 abbrev pub Leaves : Type 0
@@ -25,13 +25,13 @@ abbrev pub setOf : ℕ → ℕ → Leaves → Hops
 setOf n zero F = F []
 setOf n (suc w) F = join n (setOf n w (half false F)) (setOf n w (half true F))
 
--- going down, with hop d in force above a string whose set is x: the hop in force from there on, ..
-abbrev pub choose : ℕ → Hops → ℕ → ℕ
-choose n x d = cond (x d) d (least n x)
-
--- .. and the string's own entry: none if d is in the set, else one with the least member
+-- GOING DOWN, with hop d in force above a string whose set is x: no entry if d is in the set, else one with the least member
 abbrev pub entry : ℕ → Hops → ℕ → Option ℕ
 entry n x d = cond (x d) none (some (least n x))
+
+-- the hop in force from there on: the entry's, or else the one above
+abbrev pub choose : ℕ → Hops → ℕ → ℕ
+choose n x d = orElse (entry n x d) d
 
 -- entries moved below a bit
 abbrev pub move : Bool → Entry → Entry
