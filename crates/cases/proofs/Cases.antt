@@ -1,23 +1,23 @@
 -- THE ONE STATEMENT over the table of cases: each case holds of the definitions. It is computed on tries.
-use mathlib.Core.Path.{_≡_, refl, sym, ap, ap₂, _∙_, subst, fun-ext}
-use mathlib.Core.Bool.{Bool, true, false, cond, not, _||_}
+use mathlib.Core.Path.{_≡_, refl, ap, _∙_, subst, fun-ext}
+use mathlib.Core.Bool.{Bool, true, false, cond, not}
 use mathlib.Core.List.{List, [], _∷_, map}
-use mathlib.Core.Option.{Option, none, some}
-use mathlib.Core.Logic.{_⊎_, inl, inr}
+use mathlib.Core.Option.{none, some}
+use mathlib.Core.Logic.{inl, inr}
 use Prim.Native.Nat.{ℕ}
 use native.Mathlib.Omega.{arith}
 use lib.Dec.{leb}
 use borrow.Author.Tests.{leb-true}
 use Rattle.theory.specs.Bits.{Bits, Each, bitsOf}
-use Rattle.theory.specs.Ledger.{Ledger, Entry, isHeld, nothing, longest, load}
+use Rattle.theory.specs.Ledger.{Ledger, isHeld, nothing}
 use Rattle.theory.proofs.Hops.{by-test, never, not-true}
 use Rattle.theory.proofs.Order.{each-map, each-of-map}
 use Rattle.theory.proofs.OneHop.{longest-nothing}
 use Rattle.rules.specs.Numbers.{ipv4, width, hopBound, noRoute, noDefault}
-use Rattle.rules.specs.Records.{Reading, read, strayBits, update, recordsOf, printAll, wholeRecords}
-use Rattle.rules.specs.Plain.{Applied, applyAll, updated, needs, WithinRules}
+use Rattle.rules.specs.Records.{Reading, read, strayBits, update, recordsOf, printAll}
+use Rattle.rules.specs.Plain.{updated, WithinRules}
 use Rattle.rules.specs.Lookup.{hopOf}
-use Rattle.rules.specs.Writing.{Written, writes, refuses, written, smallestTable, ForwardsAs, SmallestFor}
+use Rattle.rules.specs.Writing.{Written, writes, refuses, written, smallestTable, ForwardsAs}
 use Rattle.rules.proofs.Records.{whole-print}
 use Rattle.rules.proofs.Plain.{or-none, Kept, readings-sound, updated-kept, nothing-within}
 use Rattle.rules.proofs.Slots.{needs-nothing}

@@ -1,13 +1,12 @@
 -- Small widths by force, computed by the checker: the definitions pass every round, and the tempting writers fail.
 use mathlib.Core.Path.{_≡_, refl}
 use mathlib.Core.Bool.{true, false}
-use mathlib.Core.List.{List, [], _∷_, map}
-use Prim.Native.Nat.{ℕ}
+use mathlib.Core.List.{[], _∷_, map}
 use lib.ListN.{length}
 use Rattle.theory.specs.Bits.{Each}
 use Rattle.theory.specs.Hops.{join}
 use Rattle.theory.proofs.Order.{each-of-map}
-use Rattle.cases.specs.Search.{Round, round, rounds, passes}
+use Rattle.cases.specs.Search.{round, rounds, passes}
 use Rattle.cases.specs.Tempting.{byDefinition, alwaysUnion, leastAlways}
 
 computed : map (passes byDefinition) rounds ≡ map (λ r. true) rounds

@@ -1,20 +1,14 @@
 -- Tables that forward alike but are not the smallest, and one that does not forward alike, do not meet what is promised.
-use mathlib.Core.Path.{_≡_, refl, sym, ap, ap₂, _∙_, subst}
-use mathlib.Core.Bool.{Bool, true, false}
-use mathlib.Core.List.{List, [], _∷_}
-use mathlib.Core.Option.{Option, none, some}
-use Prim.Native.Nat.{ℕ, _≤_, _<_}
+use mathlib.Core.Path.{_≡_, refl, ap, subst}
+use Prim.Native.Nat.{ℕ, _≤_}
 use native.Mathlib.Omega.{arith}
-use lib.ListN.{length}
-use Rattle.theory.specs.Ledger.{Ledger, Entry, _via_, load}
 use Rattle.rules.specs.Numbers.{ipv4}
 use Rattle.rules.specs.Records.{read, strayBits, printTable}
 use Rattle.rules.specs.Lookup.{hopOf}
-use Rattle.rules.specs.Writing.{written, writes, ForwardsAs, SmallestFor}
-use Rattle.cases.specs.Trie.{asLedger}
-use Rattle.cases.specs.Cases.{Case, after, resultOf, Holds, caseC, tableC, bytesC, copyOfC, caseE, tableE}
+use Rattle.rules.specs.Writing.{ForwardsAs, SmallestFor}
+use Rattle.cases.specs.Cases.{after, caseC, tableC, bytesC, copyOfC, caseE, tableE}
 use Rattle.cases.specs.Tempting.{heldOnly}
-use Rattle.cases.proofs.Cases.{cases-hold, afterIn, after-in}
+use Rattle.cases.proofs.Cases.{cases-hold, after-in}
 
 -- C's table whole, byte by byte
 pub bytes-of-C : printTable ipv4 tableC ≡ bytesC

@@ -3,18 +3,15 @@ use mathlib.Core.Path.{_≡_, refl, sym, ap, ap₂, _∙_, subst, subst₂, fun-
 use mathlib.Core.Bool.{Bool, true, false, cond, _&&_, _||_}
 use mathlib.Core.List.{List, [], _∷_, _++_, append-nil}
 use mathlib.Core.Option.{Option, none, some}
-use mathlib.Core.Logic.{_⊎_, inl, inr}
 use Prim.Native.Nat.{ℕ, zero, suc, _+_, _<_}
-use native.Mathlib.Omega.{arith}
-use lib.Dec.{ltb}
 use lib.ListN.{length}
 use borrow.Author.Tests.{ltb-true}
 use Rattle.theory.specs.Bits.{Bits, same}
-use Rattle.theory.specs.Hops.{Hops, only, some-below, join, least}
-use Rattle.theory.specs.Ledger.{Ledger, Entry, isHeld, orElse, nothing, announce, below, longest}
-use Rattle.theory.specs.Smallest.{Leaves, half, setOf, choose, entry, here, under, table}
+use Rattle.theory.specs.Hops.{Hops, only, join}
+use Rattle.theory.specs.Ledger.{isHeld, orElse}
+use Rattle.theory.specs.Smallest.{Leaves, setOf, choose, entry, here, under, table}
 use Rattle.theory.specs.Theorem.{leaves}
-use Rattle.theory.proofs.Hops.{by-test, never, and-both, only-allowed, only-self, only-one, join-same}
+use Rattle.theory.proofs.Hops.{never, and-both, only-allowed, join-same}
 use Rattle.theory.proofs.Sets.{set-of-leaves, table-of-leaves, choose-member}
 use Rattle.theory.proofs.OneHop.{longest-nothing, set-throughout, table-throughout}
 use Rattle.rules.specs.Plain.{needs}

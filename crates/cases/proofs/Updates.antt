@@ -1,22 +1,22 @@
 -- A batch applied to a trie is the batch applied to its ledger.
-use mathlib.Core.Path.{_≡_, refl, sym, ap, ap₂, _∙_, subst}
-use mathlib.Core.Bool.{Bool, true, false, cond, _&&_}
+use mathlib.Core.Path.{_≡_, refl, sym, ap, _∙_}
+use mathlib.Core.Bool.{Bool, true, false, _&&_}
 use mathlib.Core.List.{List, [], _∷_}
 use mathlib.Core.Option.{Option, none, some}
-use mathlib.Core.Logic.{_⊎_, inl, inr}
-use Prim.Native.Nat.{ℕ, zero, suc, _≤_, _<_}
+use mathlib.Core.Logic.{inl, inr}
+use Prim.Native.Nat.{ℕ, zero, suc, _≤_}
 use native.Mathlib.Omega.{arith}
 use lib.Dec.{ltb, leb}
 use lib.ListN.{length}
 use borrow.Author.Tests.{lt-ltb}
 use Rattle.theory.specs.Bits.{Bits, Each}
 use Rattle.theory.specs.Ledger.{Ledger, isHeld}
-use Rattle.theory.proofs.Hops.{by-test, never, and-both}
-use Rattle.rules.specs.Numbers.{hopBound, notHeld, noSlots}
+use Rattle.theory.proofs.Hops.{by-test, and-both}
+use Rattle.rules.specs.Numbers.{hopBound}
 use Rattle.rules.specs.Records.{Change, announces, withdraws, ProperChange, Reading, means, faulty}
-use Rattle.rules.specs.Plain.{needs, Outcome, taken, refused, ifRoom, change, apply, Applied, oneMore, next, applyAll}
+use Rattle.rules.specs.Plain.{Outcome, taken, refused, ifRoom, change, apply, Applied, oneMore, next, applyAll}
 use Rattle.rules.proofs.Plain.{Sound}
-use Rattle.cases.specs.Trie.{Trie, bare, node, asLedger, put, isBare, hopBelow, within, needsIn, OutcomeIn, takenIn, refusedIn, ifRoomIn, changeIn, applyIn, AppliedIn, nextIn, applyAllIn}
+use Rattle.cases.specs.Trie.{Trie, bare, node, asLedger, put, hopBelow, within, needsIn, OutcomeIn, takenIn, refusedIn, ifRoomIn, changeIn, applyIn, AppliedIn, nextIn, applyAllIn}
 use Rattle.cases.proofs.Trie.{put-is, needs-in}
 
 and-two : {a b : Bool} → a ≡ true → b ≡ true → (a && b) ≡ true

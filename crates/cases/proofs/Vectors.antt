@@ -1,14 +1,14 @@
 -- Sets as vectors of tests are the sets of the definition.
-use mathlib.Core.Path.{_≡_, refl, sym, ap, ap₂, _∙_, subst, fun-ext}
-use mathlib.Core.Bool.{Bool, true, false, cond, _&&_, _||_, and-false, or-false}
+use mathlib.Core.Path.{_≡_, refl, sym, ap, _∙_, fun-ext}
+use mathlib.Core.Bool.{Bool, false, cond, _||_, and-false, or-false}
 use mathlib.Core.List.{List, [], _∷_}
-use mathlib.Core.Logic.{_⊎_, inl, inr}
+use mathlib.Core.Logic.{inl, inr}
 use Prim.Native.Nat.{ℕ, zero, suc, _<_}
 use native.Mathlib.Omega.{arith}
 use native.Mathlib.Nat.{suc-inj}
-use lib.Dec.{eqb, eqb·zero-suc, eqb·suc-zero, eqb·suc-suc}
-use lib.ListN.{length, getD, replicate, length-replicate}
-use Rattle.theory.specs.Hops.{Hops, only, some-below, least, common, union, join}
+use lib.Dec.{eqb·zero-suc, eqb·suc-zero, eqb·suc-suc}
+use lib.ListN.{length, replicate, length-replicate}
+use Rattle.theory.specs.Hops.{only, some-below, least, common, union, join}
 use Rattle.theory.proofs.Hops.{by-test, join-meets, join-apart}
 use Rattle.cases.specs.Trie.{member, onlyIn, bothIn, eitherIn, someIn, leastIn, joinIn}
 

@@ -1,12 +1,12 @@
 -- THE CASES marked M in document 01, in one table, and what it is for one to hold of the definitions.
 -- Each case is an update list, as bytes, applied to the empty ledger; prefixes are written as bits.
 use mathlib.Core.Path.{_≡_}
-use mathlib.Core.Bool.{Bool, true, false}
+use mathlib.Core.Bool.{true, false}
 use mathlib.Core.List.{List, [], _∷_}
 use mathlib.Core.Option.{Option, none, some}
-use Prim.Native.Nat.{ℕ, _<_, _^_}
+use Prim.Native.Nat.{ℕ}
 use Rattle.theory.specs.Bits.{Bits, bitsOf}
-use Rattle.theory.specs.Ledger.{Ledger, Entry, _via_, nothing, load}
+use Rattle.theory.specs.Ledger.{Ledger, Entry, _via_, nothing}
 use Rattle.rules.specs.Numbers.{ipv4, width, noRoute}
 use Rattle.rules.specs.Records.{Change, announces, withdraws, printAll}
 use Rattle.rules.specs.Plain.{Applied, updated, needs}

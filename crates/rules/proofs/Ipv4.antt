@@ -1,16 +1,16 @@
 -- THE THEOREM IN DOCUMENT 01'S WORDS: width 32, hops 1 to 64, all 4,294,967,296 addresses, every plain ledger with a
 -- default route.
-use mathlib.Core.Path.{_≡_, refl, sym, ap, ap₂, _∙_}
+use mathlib.Core.Path.{_≡_, ap, _∙_}
 use mathlib.Core.Bool.{true, cond}
 use mathlib.Core.List.{List, []}
 use mathlib.Core.Option.{none}
 use Prim.Native.Nat.{ℕ, _≤_, _<_}
 use native.Mathlib.Omega.{arith}
 use lib.ListN.{length}
-use Rattle.theory.specs.Ledger.{Ledger, Entry, isHeld, nothing, load, held}
+use Rattle.theory.specs.Ledger.{Ledger, Entry, isHeld, load}
 use Rattle.rules.specs.Numbers.{ipv4, width}
 use Rattle.rules.specs.Records.{printTable}
-use Rattle.rules.specs.Plain.{Reached, at-first, after, updated, WithinRules, needs}
+use Rattle.rules.specs.Plain.{Reached, at-first, after}
 use Rattle.rules.specs.Lookup.{hopOf, Scanned, scanned, Answer, lookedUp}
 use Rattle.rules.specs.Writing.{smallestTable, SmallestFor}
 use Rattle.rules.proofs.Records.{scanned-table}

@@ -1,14 +1,14 @@
 -- What a batch does to the plain ledger: the count is that of the records really applied, and what the record rules keep.
-use mathlib.Core.Path.{_≡_, refl, sym, ap, ap₂, _∙_, subst, subst₂}
-use mathlib.Core.Bool.{Bool, true, false, cond, not, _||_, _&&_}
-use mathlib.Core.List.{List, [], _∷_, _++_, map}
+use mathlib.Core.Path.{_≡_, refl, ap, subst, subst₂}
+use mathlib.Core.Bool.{Bool, true, false, _||_}
+use mathlib.Core.List.{List, [], _∷_, map}
 use mathlib.Core.Option.{Option, none, some}
-use mathlib.Core.Logic.{_⊎_, inl, inr, ⊎-map}
-use Prim.Native.Nat.{ℕ, zero, suc, _+_, _-_, _%_, _^_, min, _≤_, _<_}
+use mathlib.Core.Logic.{inl, inr, ⊎-map}
+use Prim.Native.Nat.{ℕ, suc, _≤_}
 use native.Mathlib.Omega.{arith}
-use lib.ListN.{length, take, getD, length-take}
+use lib.ListN.{length, take, length-take}
 use lib.Dec.{eqb, ltb, leb}
-use borrow.Author.Tests.{ltb-false, leb-true, eqb-true}
+use borrow.Author.Tests.{ltb-false, leb-true}
 use Rattle.theory.specs.Bits.{Bits, same, bitsOf, Each}
 use Rattle.theory.specs.Ledger.{Ledger, isHeld, nothing, announce, withdraw}
 use Rattle.theory.proofs.Hops.{by-test, never}
@@ -16,7 +16,7 @@ use Rattle.theory.proofs.Address.{bits-length}
 use Rattle.theory.proofs.Strings.{same-true}
 use Rattle.rules.specs.Numbers.{width, lowestHop, highestHop, announceAction, notHeld, noSlots}
 use Rattle.rules.specs.Records.{Change, announces, withdraws, ProperChange, Fields, fieldsOf, Use, update, Rule, _refusedBy_, badHopFor, fieldRules, firstFault, Reading, means, faulty, meaning, faultOr, read, recordsOf, wholeRecords}
-use Rattle.rules.specs.Plain.{needs, Outcome, taken, refused, ifRoom, change, apply, Applied, oneMore, next, applyAll, updated, WithinRules, Counted, Finished, Stopped}
+use Rattle.rules.specs.Plain.{needs, Outcome, taken, refused, ifRoom, change, apply, Applied, oneMore, next, applyAll, updated, WithinRules, Counted}
 
 -- A record that has a meaning has a proper one.
 faultless : (o : Option ℕ) (m c : Change) → faultOr o m ≡ means c → (o ≡ none) × (m ≡ c)

@@ -1,9 +1,9 @@
 -- Records read back: what is printed reads as what was meant, for one record and for a list.
 use mathlib.Core.Path.{_≡_, refl, sym, ap, ap₂, _∙_, subst}
-use mathlib.Core.Bool.{Bool, true, false, cond, not, _||_, _&&_}
+use mathlib.Core.Bool.{true, false, cond, not, _||_, _&&_}
 use mathlib.Core.List.{List, [], _∷_, _++_, map}
-use mathlib.Core.Option.{Option, none, some}
-use Prim.Native.Nat.{ℕ, zero, suc, _+_, _-_, _*_, _/_, _%_, _^_, _≤_, _<_}
+use mathlib.Core.Option.{none, some}
+use Prim.Native.Nat.{ℕ, zero, suc, _+_, _*_, _/_, _%_, _^_, _≤_, _<_}
 use native.Mathlib.Omega.{arith}
 use native.Mathlib.Nat.{mod-eq-of-lt, mod-one, pow-suc, pow-succ', mul-div-cancel, mul-mod-left, zero-mul, suc-mul, add-comm}
 use lib.ListN.{length, take, drop, getD, length-append}
@@ -12,13 +12,13 @@ use lib.Pow.{pow-pos, pow-add}
 use lib.Arith.{mod-mul}
 use lib.Dec.{eqb, ltb}
 use borrow.Author.Tests.{le-ltb, eq-eqb}
-use Rattle.theory.specs.Bits.{Bits, bitsOf, addressOf, Each}
+use Rattle.theory.specs.Bits.{Bits, addressOf, Each}
 use Rattle.theory.specs.Ledger.{Entry, _via_}
 use Rattle.theory.specs.Theorem.{Proper}
 use Rattle.theory.proofs.Address.{address-below, address-clear, prefix-of-address}
 use Rattle.rules.specs.Numbers.{width, recordBytes, hopBound, lowestHop, highestHop, announceAction, withdrawAction, badAction, badHop}
-use Rattle.rules.specs.Records.{number, bytesOf, Change, announces, withdraws, ProperChange, print, Fields, fieldsOf, Use, update, lookup, strayBits, takesWithdrawals, badHopFor, fieldRules, firstFault, Reading, means, faulty, meaning, faultOr, read, pieces, recordsOf, wholeRecords, printAll, announcements, printTable}
-use Rattle.rules.specs.Lookup.{Scanned, scanOn, scanAll, scanned}
+use Rattle.rules.specs.Records.{number, bytesOf, Change, announces, withdraws, ProperChange, print, Fields, fieldsOf, Use, update, lookup, strayBits, takesWithdrawals, badHopFor, fieldRules, firstFault, means, meaning, faultOr, read, pieces, recordsOf, wholeRecords, printAll, announcements, printTable}
+use Rattle.rules.specs.Lookup.{scanOn, scanAll, scanned}
 use Rattle.rules.specs.Writing.{RealHop}
 
 -- Numbers and bytes.

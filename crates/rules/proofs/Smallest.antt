@@ -1,18 +1,18 @@
 -- The table written for a ledger keeps what is promised of it: the theorem over the width, at one hop a leaf and with
 -- addresses as numbers.
-use mathlib.Core.Path.{_≡_, refl, sym, ap, ap₂, _∙_, subst}
-use mathlib.Core.Bool.{Bool, true, false, cond}
+use mathlib.Core.Path.{_≡_, refl, sym, ap, _∙_, subst}
+use mathlib.Core.Bool.{true, false, cond}
 use mathlib.Core.List.{List, [], _∷_}
 use mathlib.Core.Option.{Option, none, some}
-use Prim.Native.Nat.{ℕ, zero, suc, _≤_, _<_, _^_}
+use Prim.Native.Nat.{ℕ, _≤_, _<_, _^_}
 use native.Mathlib.Omega.{arith}
 use lib.ListN.{length}
 use borrow.Author.Tests.{ne-eqb}
 use Rattle.theory.specs.Bits.{Bits, bitsOf, addressOf, Each}
 use Rattle.theory.specs.Hops.{only, least}
-use Rattle.theory.specs.Ledger.{Ledger, Entry, _via_, isHeld, longest, load, held}
-use Rattle.theory.specs.Smallest.{Leaves, setOf, entry, table}
-use Rattle.theory.specs.Theorem.{leaves, AllAllowed, Agrees, Smallest}
+use Rattle.theory.specs.Ledger.{Ledger, Entry, _via_, isHeld, longest, load}
+use Rattle.theory.specs.Smallest.{setOf, table}
+use Rattle.theory.specs.Theorem.{leaves, AllAllowed}
 use Rattle.theory.proofs.Hops.{never, only-allowed, only-one, only-self}
 use Rattle.theory.proofs.Longest.{longest-keeps, longest-default}
 use Rattle.theory.proofs.Sets.{set-avoids}
@@ -23,7 +23,7 @@ use Rattle.theory.proofs.Theorem as theorem
 use Rattle.rules.specs.Numbers.{width, hopBound, lowestHop, highestHop, noRoute}
 use Rattle.rules.specs.Plain.{WithinRules}
 use Rattle.rules.specs.Lookup.{hopOf}
-use Rattle.rules.specs.Writing.{smallestTable, ForwardsAs, RealHop, SmallestFor}
+use Rattle.rules.specs.Writing.{smallestTable, RealHop, SmallestFor}
 
 held-some : (o : Option ℕ) → isHeld o ≡ true → (x : ℕ) × (o ≡ some x)
 held-some none e = never e refl

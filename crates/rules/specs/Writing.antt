@@ -1,11 +1,11 @@
 -- Writing the smallest table, and what is promised of it in document 01's words.
 use mathlib.Core.Path.{_≡_}
-use mathlib.Core.Bool.{Bool, true, false, cond}
-use mathlib.Core.List.{List, [], _∷_}
+use mathlib.Core.Bool.{cond}
+use mathlib.Core.List.{List, []}
 use mathlib.Core.Option.{some}
 use Prim.Native.Nat.{ℕ, _≤_, _<_, _^_}
 use lib.ListN.{length}
-use Rattle.theory.specs.Bits.{Bits, Each}
+use Rattle.theory.specs.Bits.{Each}
 use Rattle.theory.specs.Hops.{only, least}
 use Rattle.theory.specs.Ledger.{Ledger, Entry, _via_, isHeld, load, held}
 use Rattle.theory.specs.Smallest.{setOf, table}

@@ -1,8 +1,8 @@
 -- Strings and numbers: a string of w bits is the number of its address, and the other way round.
-use mathlib.Core.Path.{_≡_, refl, sym, ap, ap₂, _∙_, subst}
+use mathlib.Core.Path.{_≡_, refl, sym, ap, ap₂, _∙_}
 use mathlib.Core.Bool.{Bool, true, false, cond, not}
-use mathlib.Core.List.{List, [], _∷_, _++_}
-use mathlib.Core.Logic.{_⊎_, inl, inr, _≢_}
+use mathlib.Core.List.{[], _∷_}
+use mathlib.Core.Logic.{inl, inr, _≢_}
 use Prim.Native.Nat.{ℕ, zero, suc, _+_, _-_, _*_, _/_, _%_, _^_, _≤_, _<_}
 use native.Mathlib.Omega.{arith}
 use native.Mathlib.Nat.{suc-inj, sub-zero, mod-one, mod-lt, zero-mod, zero-mul, pow-succ', zero-add, add-comm, one-mul, le-refl, add-mul-mod-self-right, suc-sub-suc, two-pow-succ, mul-assoc, mul-right-comm, pow-suc, add-mul-div-right, div-eq-of-lt, add-div-left}

@@ -1,16 +1,13 @@
 -- The table agrees: every address gets a hop that its leaf allows.
-use mathlib.Core.Path.{_≡_, refl, sym, ap, ap₂, _∙_}
+use mathlib.Core.Path.{_≡_, refl, ap, ap₂, _∙_}
 use mathlib.Core.Bool.{Bool, true, false, cond}
 use mathlib.Core.List.{List, [], _∷_, _++_, append-nil}
 use mathlib.Core.Option.{Option, none, some}
-use mathlib.Core.Logic.{_⊎_, inl, inr}
-use Prim.Native.Nat.{ℕ, zero, suc, _+_}
+use Prim.Native.Nat.{ℕ, zero, suc}
 use native.Mathlib.Omega.{arith}
 use native.Mathlib.Nat.{suc-inj}
-use lib.ListN.{length}
 use Rattle.theory.specs.Bits.{Bits}
-use Rattle.theory.specs.Hops.{Hops}
-use Rattle.theory.specs.Ledger.{Ledger, Entry, _via_, orElse, nothing, announce, below, longest, loadOnto, load}
+use Rattle.theory.specs.Ledger.{Ledger, Entry, _via_, orElse, nothing, announce, longest, loadOnto, load}
 use Rattle.theory.specs.Smallest.{Leaves, half, setOf, choose, entry, here, under, table}
 use Rattle.theory.specs.Theorem.{AllAllowed, Agrees}
 use Rattle.theory.proofs.Longest.{after, lookup-down}

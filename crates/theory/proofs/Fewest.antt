@@ -1,16 +1,14 @@
 -- The table has the fewest entries. Its count is the number of strings whose children's sets are apart, and one more
 -- where the hop in force above is not in the top set; and a list that agrees has at least as many.
-use mathlib.Core.Path.{_≡_, refl, sym, ap, ap₂, _∙_}
+use mathlib.Core.Path.{_≡_, refl, ap, _∙_}
 use mathlib.Core.Bool.{Bool, true, false, cond, _&&_, _||_}
-use mathlib.Core.List.{List, [], _∷_, _++_, map}
-use mathlib.Core.Option.{Option, none, some}
+use mathlib.Core.List.{List, [], _∷_, _++_}
 use mathlib.Core.Logic.{_⊎_, inl, inr, ⊎-elim, ⊎-map}
-use Prim.Native.Nat.{ℕ, zero, suc, _+_, _≤_, _<_}
+use Prim.Native.Nat.{ℕ, zero, suc, _+_, _≤_}
 use native.Mathlib.Omega.{arith}
 use lib.ListN.{length, length-append, length-map}
-use Rattle.theory.specs.Bits.{Bits}
 use Rattle.theory.specs.Hops.{Hops, Allowed, some-below, common, union, join}
-use Rattle.theory.specs.Ledger.{Ledger, Entry, _via_, orElse, nothing, longest, load}
+use Rattle.theory.specs.Ledger.{Entry, orElse, nothing, load}
 use Rattle.theory.specs.Smallest.{Leaves, half, setOf, choose, entry, here, under, move, table}
 use Rattle.theory.specs.Theorem.{AllAllowed, Agrees}
 use Rattle.theory.proofs.Hops.{by-test, never, join-meets, join-apart, apart}

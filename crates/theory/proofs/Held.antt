@@ -3,15 +3,15 @@ use mathlib.Core.Path.{_≡_, refl, sym, ap, ap₂, _∙_, subst, fun-ext}
 use mathlib.Core.Bool.{Bool, true, false, cond}
 use mathlib.Core.List.{List, [], _∷_, _++_, append-nil}
 use mathlib.Core.Option.{Option, none, some}
-use Prim.Native.Nat.{ℕ, zero, suc, _+_, _≤_, _<_}
+use Prim.Native.Nat.{ℕ, zero, suc, _+_, _≤_}
 use native.Mathlib.Omega.{arith}
 use lib.ListN.{length, length-append}
 use Rattle.theory.specs.Bits.{Bits, strings, count}
 use Rattle.theory.specs.Hops.{Hops}
-use Rattle.theory.specs.Ledger.{Ledger, Entry, _via_, isHeld, orElse, picked, nothing, below, longest, load, line, lines, routes, held}
+use Rattle.theory.specs.Ledger.{Ledger, isHeld, orElse, picked, nothing, below, longest, load, line, lines, routes, held}
 use Rattle.theory.specs.Smallest.{under}
 use Rattle.theory.specs.Theorem.{Agrees, leaves}
-use Rattle.theory.proofs.Longest.{longest-upto, after, below-load}
+use Rattle.theory.proofs.Longest.{longest-upto, below-load}
 use Rattle.theory.proofs.Agrees.{after-parts, top-parts, top-here}
 use Rattle.theory.proofs.Strings.{routes-down}
 

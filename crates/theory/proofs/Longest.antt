@@ -1,14 +1,14 @@
 -- Laws of longest match: it is the longest held prefix, and how a list of entries is split at the first bit.
-use mathlib.Core.Path.{_≡_, refl, sym, ap, _∙_, fun-ext}
+use mathlib.Core.Path.{_≡_, refl, sym, ap, _∙_}
 use mathlib.Core.Logic.{_⊎_, inl, inr}
-use mathlib.Core.Bool.{Bool, true, false, cond}
-use mathlib.Core.List.{List, [], _∷_, _++_}
+use mathlib.Core.Bool.{Bool, true, false}
+use mathlib.Core.List.{List, [], _∷_}
 use mathlib.Core.Option.{Option, none, some}
 use Prim.Native.Nat.{ℕ, zero, suc, _+_, _<_, _≤_}
 use native.Mathlib.Omega.{arith}
 use lib.ListN.{length, take}
-use Rattle.theory.specs.Bits.{Bits, same}
-use Rattle.theory.specs.Ledger.{Ledger, Entry, _via_, orElse, nothing, announce, below, longest, loadOnto, load, Found, Missed, IsLongest}
+use Rattle.theory.specs.Bits.{Bits}
+use Rattle.theory.specs.Ledger.{Ledger, Entry, _via_, orElse, nothing, announce, below, longest, loadOnto, load, IsLongest}
 
 -- Longest match reads no string longer than the address.
 pub longest-upto : {A : Type 0} (L M : Ledger A) (d : A) (a : Bits) → ((s : Bits) → length s ≤ length a → L s ≡ M s)

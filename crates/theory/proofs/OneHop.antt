@@ -1,13 +1,12 @@
 -- A string with no held route below it has one hop throughout: its set is that hop's, and it has one entry at the most.
-use mathlib.Core.Path.{_≡_, refl, sym, ap, ap₂, _∙_, subst}
-use mathlib.Core.Bool.{Bool, true, false, cond}
-use mathlib.Core.List.{List, [], _∷_, _++_, append-nil}
-use mathlib.Core.Option.{Option, none, some}
+use mathlib.Core.Path.{_≡_, refl, ap, ap₂, _∙_}
+use mathlib.Core.Bool.{true, false}
+use mathlib.Core.List.{[], _∷_, _++_, append-nil}
 use Prim.Native.Nat.{ℕ, zero, suc}
 use Rattle.theory.specs.Bits.{Bits}
 use Rattle.theory.specs.Hops.{Hops, some-below, join}
-use Rattle.theory.specs.Ledger.{Ledger, Entry, nothing, longest}
-use Rattle.theory.specs.Smallest.{Leaves, half, setOf, choose, entry, here, under, table}
+use Rattle.theory.specs.Ledger.{nothing, longest}
+use Rattle.theory.specs.Smallest.{setOf, choose, entry, here, under, table}
 use Rattle.theory.proofs.Hops.{join-same}
 use Rattle.theory.proofs.Sets.{choose-in}
 

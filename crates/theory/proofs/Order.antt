@@ -1,15 +1,15 @@
 -- The table is in order of address, then length, and its entries are proper.
-use mathlib.Core.Path.{_≡_, refl, sym, ap, ap₂, _∙_, subst}
+use mathlib.Core.Path.{_≡_, refl, ap, _∙_}
 use mathlib.Core.Bool.{Bool, true, false, cond}
 use mathlib.Core.List.{List, [], _∷_, _++_, map, head-eq-of-cons-eq, tail-eq-of-cons-eq}
 use mathlib.Core.Option.{Option, none, some}
-use mathlib.Core.Logic.{_⊎_, inl, inr, ⊎-elim, ⊎-map, _≢_}
-use Prim.Native.Nat.{ℕ, zero, suc, _+_, _≤_, _<_, _^_}
+use mathlib.Core.Logic.{_⊎_, inl, inr, ⊎-map, _≢_}
+use Prim.Native.Nat.{ℕ, zero, suc, _+_, _<_, _^_}
 use native.Mathlib.Omega.{arith}
 use lib.ListN.{length}
 use lib.Pow.{pow-pos}
 use Rattle.theory.specs.Bits.{Bits, Each, addressOf}
-use Rattle.theory.specs.Hops.{Hops, Allowed, least}
+use Rattle.theory.specs.Hops.{Hops, Allowed}
 use Rattle.theory.specs.Ledger.{Entry, _via_}
 use Rattle.theory.specs.Smallest.{Leaves, half, setOf, choose, entry, here, under, move, table}
 use Rattle.theory.specs.Theorem.{AllAllowed, Before, Sorted, Proper}

@@ -1,18 +1,15 @@
 -- Loading the table and writing again gives the same table, for leaves with any sets: the hops that the table gives are
 -- leaves of one hop each, whose sets lie in the sets before and hold the hops that were chosen.
 use mathlib.Core.Path.{_≡_, refl, sym, ap, ap₂, _∙_, subst, fun-ext}
-use mathlib.Core.Bool.{Bool, true, false, cond}
-use mathlib.Core.List.{List, [], _∷_, _++_}
-use mathlib.Core.Option.{Option, none, some}
-use mathlib.Core.Logic.{_⊎_, inl, inr, ⊎-elim}
-use Prim.Native.Nat.{ℕ, zero, suc, _+_, _≤_, _<_}
+use mathlib.Core.Bool.{Bool, true, false}
+use mathlib.Core.List.{List, [], _++_}
+use mathlib.Core.Logic.{inl, inr, ⊎-elim}
+use Prim.Native.Nat.{ℕ, zero, suc}
 use native.Mathlib.Omega.{arith}
-use lib.ListN.{length}
-use Rattle.theory.specs.Bits.{Bits}
-use Rattle.theory.specs.Hops.{Hops, Allowed, only, some-below, common, union, join, least}
-use Rattle.theory.specs.Ledger.{Entry, _via_, orElse, longest, load}
+use Rattle.theory.specs.Hops.{Hops, Allowed, only, some-below, common, join, least}
+use Rattle.theory.specs.Ledger.{Entry, orElse, longest, load}
 use Rattle.theory.specs.Smallest.{Leaves, half, setOf, choose, entry, here, under, table}
-use Rattle.theory.specs.Theorem.{AllAllowed, Agrees}
+use Rattle.theory.specs.Theorem.{AllAllowed}
 use Rattle.theory.proofs.Hops.{by-test, never, and-both, or-either, or-right, least-member, least-below, least-least, some-below-of, join-meets, join-apart, apart, only-one, only-self}
 use Rattle.theory.proofs.Sets.{half-allowed, set-allowed, choose-member}
 use Rattle.theory.proofs.Agrees.{table-down, top-here}

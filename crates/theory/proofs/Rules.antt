@@ -1,17 +1,16 @@
 -- Document 01's rules for sets and entries, as equations on strings: the definitions that go down bit by bit obey them.
-use mathlib.Core.Path.{_≡_, refl, sym, ap, ap₂, _∙_, subst, fun-ext}
-use mathlib.Core.Bool.{Bool, true, false, cond}
-use mathlib.Core.List.{List, [], _∷_, _++_, map, append-assoc, append-nil}
-use mathlib.Core.Option.{Option, none, some}
-use Prim.Native.Nat.{ℕ, zero, suc, _+_, _-_, _≤_, _<_}
+use mathlib.Core.Path.{_≡_, sym, ap, ap₂, _∙_, fun-ext}
+use mathlib.Core.Bool.{Bool, true, false}
+use mathlib.Core.List.{[], _∷_, _++_, append-assoc, append-nil}
+use Prim.Native.Nat.{ℕ, zero, suc, _-_, _<_}
 use native.Mathlib.Omega.{arith}
 use native.Mathlib.Nat.{sub-zero, suc-sub-suc}
 use lib.ListN.{length, length-append}
-use Rattle.theory.specs.Bits.{Bits, strings}
-use Rattle.theory.specs.Hops.{Hops, join}
-use Rattle.theory.specs.Ledger.{Ledger, Entry, _via_, below, line, routes}
+use Rattle.theory.specs.Bits.{Bits}
+use Rattle.theory.specs.Hops.{join}
+use Rattle.theory.specs.Ledger.{below, line, routes}
 use Rattle.theory.proofs.Strings.{routes-down}
-use Rattle.theory.specs.Smallest.{Leaves, half, behind, setOf, choose, entry, here, move, under, table, setAt, hopAbove, entryAt}
+use Rattle.theory.specs.Smallest.{Leaves, half, behind, setOf, choose, entry, here, under, table, setAt, hopAbove, entryAt}
 
 module _ (n w : ℕ) (F : Leaves) where
   -- a full string has its leaf's set

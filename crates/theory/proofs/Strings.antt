@@ -1,15 +1,15 @@
 -- Counting over all strings: each string of at most w bits stands once in `strings w`, and a count over them is taken apart
 -- at the first bit.
-use mathlib.Core.Path.{_≡_, refl, sym, ap, ap₂, _∙_, subst, fun-ext}
-use mathlib.Core.Bool.{Bool, true, false, cond, Bool·beq, _&&_}
+use mathlib.Core.Path.{_≡_, refl, sym, ap, ap₂, _∙_}
+use mathlib.Core.Bool.{Bool, true, false, cond}
 use mathlib.Core.List.{List, [], _∷_, _++_, map, append-assoc}
 use Prim.Native.Nat.{ℕ, zero, suc, _+_, _≤_, _<_}
 use native.Mathlib.Omega.{arith}
 use native.Mathlib.Nat.{add-assoc}
 use lib.ListN.{length}
 use mathlib.Core.Option.{Option, none, some}
-use Rattle.theory.specs.Bits.{Bits, same, strings, count, some-of}
-use Rattle.theory.specs.Ledger.{Ledger, Entry, _via_, below, line, lines, routes}
+use Rattle.theory.specs.Bits.{Bits, same, strings, count}
+use Rattle.theory.specs.Ledger.{Ledger, Entry, below, line, lines, routes}
 use Rattle.theory.specs.Smallest.{move, under}
 use Rattle.theory.proofs.Hops.{never}
 

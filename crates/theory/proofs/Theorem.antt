@@ -14,7 +14,7 @@ use Rattle.theory.proofs.Sets.{table-of-leaves}
 use Rattle.theory.proofs.Agrees.{table-agrees}
 use Rattle.theory.proofs.Fewest.{table-count, fewest}
 use Rattle.theory.proofs.Order.{sorted, proper}
-use Rattle.theory.proofs.Reload.{given, reload}
+use Rattle.theory.proofs.Reload.{reload}
 use Rattle.theory.proofs.Held.{held-agrees, held-count}
 
 module _ (n w : ℕ) (F : Leaves) (d : ℕ) (ok : AllAllowed n w F) where

@@ -1,12 +1,12 @@
 -- Announcements and withdrawals do to the ledger what the record rules say, and nothing else.
-use mathlib.Core.Path.{_≡_, refl, sym, ap, _∙_}
-use mathlib.Core.Bool.{Bool, true, false, cond}
+use mathlib.Core.Path.{_≡_, ap, _∙_}
+use mathlib.Core.Bool.{false}
 use mathlib.Core.List.{List, [], _∷_, _++_}
-use mathlib.Core.Option.{Option, none, some}
-use mathlib.Core.Logic.{_⊎_, inl, inr, _≢_}
+use mathlib.Core.Option.{none, some}
+use mathlib.Core.Logic.{inl, inr, _≢_}
 use Prim.Native.Nat.{ℕ}
 use Rattle.theory.specs.Bits.{Bits, same}
-use Rattle.theory.specs.Ledger.{Ledger, Entry, _via_, nothing, announce, withdraw, loadOnto, load}
+use Rattle.theory.specs.Ledger.{Ledger, Entry, _via_, nothing, announce, withdraw, load}
 use Rattle.theory.proofs.Hops.{by-test}
 use Rattle.theory.proofs.Strings.{same-self, same-true}
 use Rattle.theory.proofs.Agrees.{load-append}

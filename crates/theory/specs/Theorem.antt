@@ -1,7 +1,7 @@
 -- What is claimed of the smallest table, over the width and the bound on hops.
 use mathlib.Core.Path.{_≡_}
 use mathlib.Core.Logic.{_⊎_}
-use mathlib.Core.Bool.{Bool, true, false}
+use mathlib.Core.Bool.{true}
 use mathlib.Core.List.{List, [], _∷_}
 use Prim.Native.Nat.{ℕ, _≤_, _<_, _%_, _^_, _-_}
 use lib.ListN.{length}
