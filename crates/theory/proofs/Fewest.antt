@@ -31,16 +31,13 @@ splits n (suc w) F =
 hit : (x : Hops) (d : ℕ) → x d ≡ true → miss x d ≡ 0
 hit x d e = rw e
 
-missed : (x : Hops) (d : ℕ) → x d ≡ false → miss x d ≡ 1
-missed x d e = rw e
-
 miss-le : (x : Hops) (d : ℕ) → miss x d ≤ 1
 miss-le x d = elim (by-test (x d)) [ inl e ↦ rw e (omega arith) | inr e ↦ rw e (omega arith) ]
 
-module _ (n : ℕ) (x y : Hops) (ok-x : Allowed n x) (ok-y : Allowed n y) where
+module _ (n : ℕ) (x y : Hops) (ok : Allowed n x) where
   -- sets that are apart: a hop is missed by one of them at least, and by both where their union misses it
   apart-miss : some-below n (common x y) ≡ false → (c : ℕ) → miss (union x y) c + 1 ≡ miss x c + miss y c
-  apart-miss e c = go (x c) (y c) (λ p q. apart n x y e c (ok-x .bounded c p) p q)
+  apart-miss e c = go (x c) (y c) (λ p q. apart n x y e c (ok .bounded c p) p q)
     where
       go : (a b : Bool) → (a ≡ true → b ≡ true → ⊥) → cond (a || b) 0 1 + 1 ≡ cond a 0 1 + cond b 0 1
       go true true h = absurd (h refl refl)
@@ -93,7 +90,7 @@ table-count n (suc w) F d ok =
     let ok₁ = half-allowed true ok in
     let n₀ = table-count n w (half false F) c ok₀ in
     let n₁ = table-count n w (half true F) c ok₁ in
-    let m = split-miss n _ _ (set-allowed n w _ ok₀) (set-allowed n w _ ok₁) c (choose-member n s d (set-allowed n (suc w) F ok)) in
+    let m = split-miss n _ (setOf n w (half true F)) (set-allowed n w _ ok₀) c (choose-member n s d (set-allowed n (suc w) F ok)) in
     let l = length-append (here (entry n s d)) (under false es ++ under true fs) in
     let l₂ = length-append (under false es) (under true fs) in
     omega (arith, here-count n s d, length-map es (move false), length-map fs (move true))
@@ -110,7 +107,7 @@ fewest n (suc w) F d ok es agrees =
     let ok₁ = half-allowed true ok in
     let n₀ = fewest n w (half false F) c ok₀ (after false es) (λ a e. rw (lookup-down es d false a) at (agrees (false ∷ a) (ap suc e))) in
     let n₁ = fewest n w (half true F) c ok₁ (after true es) (λ a e. rw (lookup-down es d true a) at (agrees (true ∷ a) (ap suc e))) in
-    let p = split-pays n _ _ (set-allowed n w _ ok₀) (set-allowed n w _ ok₁) (at-top es) c d
+    let p = split-pays n _ (setOf n w (half true F)) (set-allowed n w _ ok₀) (at-top es) c d
     (⊎-map (λ e. ap (λ v. orElse v d) e) (λ k. k) (load-top nothing es)) in
     let l = split-length es in
     omega arith
