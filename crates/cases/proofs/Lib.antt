@@ -2,5 +2,4 @@ pub mod Vectors
 pub mod Trie
 pub mod Updates
 pub mod Cases
-pub mod Search
 pub mod Tempting

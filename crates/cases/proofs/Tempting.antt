@@ -6,8 +6,7 @@ use Rattle.rules.specs.Numbers.{ipv4}
 use Rattle.rules.specs.Records.{read, strayBits, printTable}
 use Rattle.rules.specs.Lookup.{hopOf}
 use Rattle.rules.specs.Writing.{ForwardsAs, SmallestFor}
-use Rattle.cases.specs.Cases.{after, caseC, tableC, bytesC, copyOfC, caseE, tableE}
-use Rattle.cases.specs.Tempting.{heldOnly}
+use Rattle.cases.specs.Cases.{after, caseC, tableC, bytesC, copyOfC, caseE, tableE, heldOnly}
 use Rattle.cases.proofs.Cases.{cases-hold, after-in}
 
 -- C's table whole, byte by byte

@@ -1,12 +1,12 @@
 -- THE CASES marked M in document 01, in one table, and what it is for one to hold of the definitions.
 -- Each case is an update list, as bytes, applied to the empty ledger; prefixes are written as bits.
 use mathlib.Core.Path.{_≡_}
-use mathlib.Core.Bool.{true, false}
+use mathlib.Core.Bool.{true, false, cond}
 use mathlib.Core.List.{List, [], _∷_}
 use mathlib.Core.Option.{Option, none, some}
 use Prim.Native.Nat.{ℕ}
 use Rattle.theory.specs.Bits.{Bits, bitsOf}
-use Rattle.theory.specs.Ledger.{Ledger, Entry, _via_, nothing}
+use Rattle.theory.specs.Ledger.{Ledger, Entry, _via_, nothing, isHeld}
 use Rattle.rules.specs.Numbers.{ipv4, width, noRoute}
 use Rattle.rules.specs.Records.{Change, announces, withdraws, printAll}
 use Rattle.rules.specs.Plain.{Applied, updated, needs}
@@ -139,3 +139,8 @@ cases =
     -- K
     ∷ refused-with 64 8 (withdraws * ∷ []) 0 1 (refuses 10)
     ∷ []
+
+-- tempting and wrong: forgetting the entries for strings that were never held
+abbrev pub heldOnly : Ledger ℕ → List Entry → List Entry
+heldOnly L [] = []
+heldOnly L (s via h ∷ es) = cond (isHeld (L s)) (s via h ∷ heldOnly L es) (heldOnly L es)

@@ -1,4 +1,2 @@
 pub mod Trie
 pub mod Cases
-pub mod Search
-pub mod Tempting

@@ -12,23 +12,31 @@ use borrow.Author.Tests.{ltb-false, leb-true}
 use Rattle.theory.specs.Bits.{Bits, same, bitsOf, Each}
 use Rattle.theory.specs.Ledger.{Ledger, isHeld, nothing, announce, withdraw}
 use Rattle.theory.proofs.Hops.{by-test, never}
+use Rattle.theory.proofs.Longest.{none-some}
 use Rattle.theory.proofs.Address.{bits-length}
 use Rattle.theory.proofs.Strings.{same-true}
-use Rattle.rules.specs.Numbers.{width, lowestHop, highestHop, announceAction, notHeld, noSlots}
+use Rattle.rules.specs.Numbers.{width, lowestHop, highestHop, announceAction}
 use Rattle.rules.specs.Records.{Change, announces, withdraws, ProperChange, Fields, fieldsOf, Use, update, Rule, _refusedBy_, badHopFor, fieldRules, firstFault, Reading, means, faulty, meaning, faultOr, read, recordsOf, wholeRecords}
 use Rattle.rules.specs.Plain.{needs, Outcome, taken, refused, ifRoom, change, apply, Applied, oneMore, next, applyAll, updated, WithinRules, Counted}
+
+-- A refused record is not taken, and a faulty one has no meaning.
+refused-taken : {A : Type 0} {x : ℕ} {M : Ledger ℕ} → refused x ≡ taken M → A
+refused-taken e = absurd (let z : _≡_ {A = ℕ} 0 1 = cc in omega arith)
+
+faulty-means : {A : Type 0} {x : ℕ} {c : Change} → faulty x ≡ means c → A
+faulty-means e = absurd (let z : _≡_ {A = ℕ} 0 1 = cc in omega arith)
 
 -- A record that has a meaning has a proper one.
 faultless : (o : Option ℕ) (m c : Change) → faultOr o m ≡ means c → (o ≡ none) × (m ≡ c)
 faultless none m c e = (refl, cc)
-faultless (some x) m c e = absurd (let z : _≡_ {A = ℕ} 0 1 = cc in omega arith)
+faultless (some x) m c e = faulty-means e
 
 abbrev Unbroken : Rule → Type 0
 Unbroken (broken refusedBy x) = broken ≡ false
 
 unbroken : (rules : List Rule) → firstFault rules ≡ none → Each Unbroken rules
 unbroken [] e = tt
-unbroken (true refusedBy x ∷ rules) e = absurd (let z : _≡_ {A = ℕ} 0 1 = cc in omega arith)
+unbroken (true refusedBy x ∷ rules) e = none-some refl e
 unbroken (false refusedBy x ∷ rules) e = (refl, unbroken rules e)
 
 prefix-short : (w n x : ℕ) → length (take n (bitsOf w x)) ≤ w
@@ -73,7 +81,7 @@ announce-within w L p h ok proper q g e =
 withdraw-within : (w : ℕ) (L : Ledger ℕ) (p : Bits) → WithinRules w L → WithinRules w (withdraw L p)
 withdraw-within w L p ok q g e =
     elim (by-test (same p q)) [
-      | inl s ↦ let f : none ≡ some g = rw s at e in absurd (let z : _≡_ {A = ℕ} 0 1 = cc in omega arith)
+      | inl s ↦ none-some (rw s at e) refl
       | inr s ↦ ok q g (rw s at e)
     ]
 
@@ -84,7 +92,7 @@ room-kept w slots L M ok e =
           let f : taken L ≡ taken M = rw r at e in
           let q : L ≡ M = cc in
           subst (Kept w slots) q (record { within = ok; fits = leb-true _ _ r })
-      | inr r ↦ let f : refused noSlots ≡ taken M = rw r at e in absurd (let z : _≡_ {A = ℕ} 0 1 = cc in omega arith)
+      | inr r ↦ refused-taken (rw r at e)
     ]
 
 pub change-kept : (w slots : ℕ) (L M : Ledger ℕ) (c : Change) → WithinRules w L → ProperChange w c → change w slots L c ≡ taken M
@@ -93,7 +101,7 @@ change-kept w slots L M (announces p h) ok proper e = room-kept w slots (announc
 change-kept w slots L M (withdraws p) ok proper e =
     elim (by-test (isHeld (L p))) [
       | inl h ↦ room-kept w slots (withdraw L p) M (withdraw-within w L p ok) (rw h at e)
-      | inr h ↦ let f : refused notHeld ≡ taken M = rw h at e in absurd (let z : _≡_ {A = ℕ} 0 1 = cc in omega arith)
+      | inr h ↦ refused-taken (rw h at e)
     ]
 
 -- the readings' meanings are proper
@@ -102,7 +110,7 @@ Sound w r = (c : Change) → r ≡ means c → ProperChange w c
 
 apply-kept : (w slots : ℕ) (L M : Ledger ℕ) (r : Reading) → Kept w slots L → Sound w r → apply w slots L r ≡ taken M → Kept w slots M
 apply-kept w slots L M (means c) ok sound e = change-kept w slots L M c (ok .within) (sound c refl) e
-apply-kept w slots L M (faulty x) ok sound e = absurd (let z : _≡_ {A = ℕ} 0 1 = cc in omega arith)
+apply-kept w slots L M (faulty x) ok sound e = refused-taken e
 
 next-kept : (w slots : ℕ) (L : Ledger ℕ) (o : Outcome) (rest : Ledger ℕ → Applied) → Kept w slots L
     → ((M : Ledger ℕ) → o ≡ taken M → Kept w slots (rest M .ledger)) → Kept w slots (next L o rest .ledger)
@@ -130,7 +138,7 @@ updated-kept k slots L bytes ok =
     ]
 
 pub nothing-within : (w : ℕ) → WithinRules w nothing
-nothing-within w p h e = absurd (let z : _≡_ {A = ℕ} 0 1 = cc in omega arith)
+nothing-within w p h e = none-some e refl
 
 -- THE COUNT is that of the records really applied.
 module _ (w slots : ℕ) (L : Ledger ℕ) (r : Reading) (rs : List Reading) where

@@ -1,7 +1,7 @@
 -- Slots needed, taken apart at the first bit: the count of strings, computed the way a trie is walked.
 use mathlib.Core.Path.{_≡_, refl, ap, ap₂, _∙_, fun-ext}
 use mathlib.Core.Bool.{Bool, true, false, cond, _||_}
-use mathlib.Core.List.{List, [], _∷_, _++_, map}
+use mathlib.Core.List.{List, [], _∷_, _++_}
 use mathlib.Core.Logic.{inl, inr}
 use Prim.Native.Nat.{ℕ, zero, suc, _+_, _-_, _≤_}
 use native.Mathlib.Omega.{arith}
@@ -10,20 +10,8 @@ use lib.ListN.{length}
 use Rattle.theory.specs.Bits.{Bits, same, strings, count, some-of}
 use Rattle.theory.specs.Ledger.{Ledger, isHeld, nothing, announce, withdraw, below}
 use Rattle.theory.proofs.Hops.{by-test, never}
-use Rattle.theory.proofs.Strings.{count-down}
+use Rattle.theory.proofs.Strings.{count-down, some-down, some-of-string, string-of-some}
 use Rattle.rules.specs.Plain.{isEmpty, beginsHeld, needs}
-
-module _ {A : Type 0} where
-  some-append : (p : A → Bool) (xs ys : List A) → some-of p (xs ++ ys) ≡ (some-of p xs || some-of p ys)
-  some-append p [] ys = refl
-  some-append p (x ∷ xs) ys = elim (p x) as (λ b. cond b true (some-of p (xs ++ ys)) ≡ (cond b true (some-of p xs) || some-of p ys)) [
-    | true ↦ refl
-    | false ↦ some-append p xs ys
-  ]
-
-some-map : {A B : Type 0} (p : B → Bool) (f : A → B) (xs : List A) → some-of p (map f xs) ≡ some-of (λ x. p (f x)) xs
-some-map p f [] = refl
-some-map p f (x ∷ xs) = ap (λ b. cond (p (f x)) true b) (some-map p f xs)
 
 cond-or : (a b : Bool) → cond a true b ≡ (a || b)
 cond-or true b = refl
@@ -43,11 +31,7 @@ module _ {A : Type 0} where
   live w L = some-of (λ t. isHeld (L t)) (strings w)
 
   pub live-down : (w : ℕ) (L : Ledger A) → live (suc w) L ≡ (isHeld (L []) || (live w (below false L) || live w (below true L)))
-  live-down w L =
-      ap (λ b. cond (isHeld (L [])) true b)
-      (some-append (λ t. isHeld (L t)) (map (λ s. false ∷ s) (strings w)) (map (λ s. true ∷ s) (strings w))
-      ∙ ap₂ _||_ (some-map (λ t. isHeld (L t)) (λ s. false ∷ s) (strings w)) (some-map (λ t. isHeld (L t)) (λ s. true ∷ s) (strings w)))
-      ∙ cond-or (isHeld (L [])) (live w (below false L) || live w (below true L))
+  live-down w L = some-down (λ t. isHeld (L t)) w ∙ cond-or (isHeld (L [])) (live w (below false L) || live w (below true L))
 
   begins-down : (w : ℕ) (L : Ledger A) (b : Bool) → (λ s. beginsHeld (suc w) L (b ∷ s)) ≡ beginsHeld w (below b L)
   begins-down w L b = fun-ext (λ s. ap (λ v. some-of (λ t. isHeld (L (b ∷ (s ++ t)))) (strings v)) (suc-sub-suc w (length s)))
@@ -71,6 +55,14 @@ module _ {A : Type 0} where
   needs-down w L =
       count-down (λ s. isEmpty s || beginsHeld (suc w) L s) w
       ∙ ap₂ (λ p q. 1 + (count p (strings w) + count q (strings w))) (begins-down w L false) (begins-down w L true)
+
+-- A string begins or equals a held prefix exactly when that prefix is the string with something behind it.
+module _ {A : Type 0} (w : ℕ) (L : Ledger A) (s : Bits) where
+  pub begins-of-held : (t : Bits) → length t ≤ w - length s → isHeld (L (s ++ t)) ≡ true → beginsHeld w L s ≡ true
+  begins-of-held t l h = some-of-string (λ t. isHeld (L (s ++ t))) (w - length s) t l h
+
+  pub held-of-begins : beginsHeld w L s ≡ true → (t : Bits) × (length t ≤ w - length s) × (isHeld (L (s ++ t)) ≡ true)
+  held-of-begins e = string-of-some (λ t. isHeld (L (s ++ t))) (w - length s) e
 
 -- A ledger that holds no more needs no more slots: so a withdrawal is never refused for want of room.
 module _ {A : Type 0} (p q : A → Bool) (more : (x : A) → p x ≡ true → q x ≡ true) where

@@ -10,70 +10,8 @@ use lib.ListN.{length, take}
 use Rattle.theory.specs.Bits.{Bits}
 use Rattle.theory.specs.Ledger.{Ledger, Entry, _via_, orElse, nothing, announce, below, longest, loadOnto, load, IsLongest}
 
--- Longest match reads no string longer than the address.
-pub longest-upto : {A : Type 0} (L M : Ledger A) (d : A) (a : Bits) → ((s : Bits) → length s ≤ length a → L s ≡ M s)
-    → longest L d a ≡ longest M d a
-longest-upto L M d [] h = rw (h [] (omega arith))
-longest-upto L M d (b ∷ a) h =
-    rw (h [] (omega arith)) (longest-upto (below b L) (below b M) _ a (λ s l. h (b ∷ s) (omega arith)))
-
--- What longest match gives was held, or in force at first.
-module _ {A : Type 0} (P : A → Type 0) where
-  else-keeps : (o : Option A) (d : A) → ((x : A) → o ≡ some x → P x) → P d → P (orElse o d)
-  else-keeps none d h p = p
-  else-keeps (some x) d h p = h x refl
-
-  pub longest-keeps : (L : Ledger A) (d : A) → ((s : Bits) (x : A) → L s ≡ some x → P x) → P d → (a : Bits) → P (longest L d a)
-  longest-keeps L d h p [] = else-keeps (L []) d (h []) p
-  longest-keeps L d h p (b ∷ a) = longest-keeps (below b L) (orElse (L []) d) (λ s. h (b ∷ s)) (else-keeps (L []) d (h []) p) a
-
--- Where the empty string is held, what was in force above it does not matter.
-pub longest-default : {A : Type 0} (L : Ledger A) (x d : A) → L [] ≡ some x → (a : Bits) → longest L d a ≡ longest L x a
-longest-default L x d e [] = rw e
-longest-default L x d e (b ∷ a) = rw e
-
--- The entries of a list behind a first bit, and how many stand at the empty string.
-abbrev pub after : Bool → List Entry → List Entry
-after b [] = []
-after b ([] via h ∷ es) = after b es
-after true ((true ∷ p) via h ∷ es) = p via h ∷ after true es
-after true ((false ∷ p) via h ∷ es) = after true es
-after false ((true ∷ p) via h ∷ es) = after false es
-after false ((false ∷ p) via h ∷ es) = p via h ∷ after false es
-
-abbrev pub at-top : List Entry → ℕ
-at-top [] = 0
-at-top ([] via h ∷ es) = suc (at-top es)
-at-top ((b ∷ p) via h ∷ es) = at-top es
-
-pub split-length : (es : List Entry) → length es ≡ at-top es + (length (after false es) + length (after true es))
-split-length [] = refl
-split-length ([] via h ∷ es) = let r = split-length es in omega arith
-split-length ((true ∷ p) via h ∷ es) = let r = split-length es in omega arith
-split-length ((false ∷ p) via h ∷ es) = let r = split-length es in omega arith
-
--- Behind a bit, a loaded list is the list of its entries behind that bit, loaded.
-pub below-load : (b : Bool) (L : Ledger ℕ) (es : List Entry) → below b (loadOnto L es) ≡ loadOnto (below b L) (after b es)
-below-load b L [] = refl
-below-load b L ([] via h ∷ es) = below-load b (announce L [] h) es
-below-load true L ((true ∷ p) via h ∷ es) = below-load true (announce L (true ∷ p) h) es
-below-load true L ((false ∷ p) via h ∷ es) = below-load true (announce L (false ∷ p) h) es
-below-load false L ((true ∷ p) via h ∷ es) = below-load false (announce L (true ∷ p) h) es
-below-load false L ((false ∷ p) via h ∷ es) = below-load false (announce L (false ∷ p) h) es
-
--- At the empty string, a list with no entry there changes nothing.
-pub load-top : (L : Ledger ℕ) (es : List Entry) → (loadOnto L es [] ≡ L []) ⊎ (1 ≤ at-top es)
-load-top L [] = inl refl
-load-top L ([] via h ∷ es) = inr (omega arith)
-load-top L ((b ∷ p) via h ∷ es) = load-top (announce L (b ∷ p) h) es
-
--- Lookup in a list, one bit down.
-pub lookup-down : (es : List Entry) (d : ℕ) (b : Bool) (a : Bits)
-    → longest (load es) d (b ∷ a) ≡ longest (load (after b es)) (orElse (load es []) d) a
-lookup-down es d b a = ap (λ L. longest L (orElse (load es []) d) a) (below-load b nothing es)
-
 -- LONGEST MATCH IN DOCUMENT 01'S WORDS: the definition answers so, ..
-none-some : {A B : Type 0} {x : A} {o : Option A} → o ≡ some x → o ≡ none → B
+pub none-some : {A B : Type 0} {x : A} {o : Option A} → o ≡ some x → o ≡ none → B
 none-some p q = absurd (let z : _≡_ {A = ℕ} 0 1 = cc in omega arith)
 
 same-some : {A : Type 0} {x y : A} → some x ≡ some y → x ≡ y
@@ -140,3 +78,65 @@ module _ {A : Type 0} where
 
   pub longest-only : (L : Ledger A) (d : A) (a : Bits) (x : A) → IsLongest L d a x → x ≡ longest L d a
   longest-only L d a x i = one-longest L d a x _ i (longest-is L d a)
+
+-- Longest match reads no string longer than the address.
+pub longest-upto : {A : Type 0} (L M : Ledger A) (d : A) (a : Bits) → ((s : Bits) → length s ≤ length a → L s ≡ M s)
+    → longest L d a ≡ longest M d a
+longest-upto L M d [] h = rw (h [] (omega arith))
+longest-upto L M d (b ∷ a) h =
+    rw (h [] (omega arith)) (longest-upto (below b L) (below b M) _ a (λ s l. h (b ∷ s) (omega arith)))
+
+-- What longest match gives was held, or in force at first.
+module _ {A : Type 0} (P : A → Type 0) where
+  else-keeps : (o : Option A) (d : A) → ((x : A) → o ≡ some x → P x) → P d → P (orElse o d)
+  else-keeps none d h p = p
+  else-keeps (some x) d h p = h x refl
+
+  pub longest-keeps : (L : Ledger A) (d : A) → ((s : Bits) (x : A) → L s ≡ some x → P x) → P d → (a : Bits) → P (longest L d a)
+  longest-keeps L d h p [] = else-keeps (L []) d (h []) p
+  longest-keeps L d h p (b ∷ a) = longest-keeps (below b L) (orElse (L []) d) (λ s. h (b ∷ s)) (else-keeps (L []) d (h []) p) a
+
+-- Where the empty string is held, what was in force above it does not matter.
+pub longest-default : {A : Type 0} (L : Ledger A) (x d : A) → L [] ≡ some x → (a : Bits) → longest L d a ≡ longest L x a
+longest-default L x d e [] = rw e
+longest-default L x d e (b ∷ a) = rw e
+
+-- The entries of a list behind a first bit, and how many stand at the empty string.
+abbrev pub after : Bool → List Entry → List Entry
+after b [] = []
+after b ([] via h ∷ es) = after b es
+after true ((true ∷ p) via h ∷ es) = p via h ∷ after true es
+after true ((false ∷ p) via h ∷ es) = after true es
+after false ((true ∷ p) via h ∷ es) = after false es
+after false ((false ∷ p) via h ∷ es) = p via h ∷ after false es
+
+abbrev pub at-top : List Entry → ℕ
+at-top [] = 0
+at-top ([] via h ∷ es) = suc (at-top es)
+at-top ((b ∷ p) via h ∷ es) = at-top es
+
+pub split-length : (es : List Entry) → length es ≡ at-top es + (length (after false es) + length (after true es))
+split-length [] = refl
+split-length ([] via h ∷ es) = let r = split-length es in omega arith
+split-length ((true ∷ p) via h ∷ es) = let r = split-length es in omega arith
+split-length ((false ∷ p) via h ∷ es) = let r = split-length es in omega arith
+
+-- Behind a bit, a loaded list is the list of its entries behind that bit, loaded.
+pub below-load : (b : Bool) (L : Ledger ℕ) (es : List Entry) → below b (loadOnto L es) ≡ loadOnto (below b L) (after b es)
+below-load b L [] = refl
+below-load b L ([] via h ∷ es) = below-load b (announce L [] h) es
+below-load true L ((true ∷ p) via h ∷ es) = below-load true (announce L (true ∷ p) h) es
+below-load true L ((false ∷ p) via h ∷ es) = below-load true (announce L (false ∷ p) h) es
+below-load false L ((true ∷ p) via h ∷ es) = below-load false (announce L (true ∷ p) h) es
+below-load false L ((false ∷ p) via h ∷ es) = below-load false (announce L (false ∷ p) h) es
+
+-- At the empty string, a list with no entry there changes nothing.
+pub load-top : (L : Ledger ℕ) (es : List Entry) → (loadOnto L es [] ≡ L []) ⊎ (1 ≤ at-top es)
+load-top L [] = inl refl
+load-top L ([] via h ∷ es) = inr (omega arith)
+load-top L ((b ∷ p) via h ∷ es) = load-top (announce L (b ∷ p) h) es
+
+-- Lookup in a list, one bit down.
+pub lookup-down : (es : List Entry) (d : ℕ) (b : Bool) (a : Bits)
+    → longest (load es) d (b ∷ a) ≡ longest (load (after b es)) (orElse (load es []) d) a
+lookup-down es d b a = ap (λ L. longest L (orElse (load es []) d) a) (below-load b nothing es)

@@ -38,7 +38,7 @@ module _ (n : ℕ) (x y : Hops) (d : ℕ) (ok : Allowed n y) (inside : Within x 
       ]
 
 -- the join of smaller sets that hold the chosen hops is smaller, and holds the hop that was chosen above
-module _ (n : ℕ) (x₀ x₁ y₀ y₁ : Hops) (ok₀ : Allowed n y₀) (ok₁ : Allowed n y₁) (in₀ : Within x₀ y₀) (in₁ : Within x₁ y₁)
+module _ (n : ℕ) (x₀ x₁ y₀ y₁ : Hops) (ok₀ : Allowed n y₀) (in₀ : Within x₀ y₀) (in₁ : Within x₁ y₁)
     (c : ℕ) (c-in : join n y₀ y₁ c ≡ true) (ch₀ : x₀ (choose n y₀ c) ≡ true) (ch₁ : x₁ (choose n y₁ c) ≡ true) where
   stays : (x y : Hops) → x (choose n y c) ≡ true → y c ≡ true → x c ≡ true
   stays x y h e = rw e at h
@@ -94,7 +94,7 @@ given-set n (suc w) F d ok =
     let r₀ = given-set n w (half false F) c ok₀ in
     let r₁ = given-set n w (half true F) c ok₁ in
     rw (given-half n w F d false, given-half n w F d true)
-    (join-within n _ _ (setOf n w (half false F)) (setOf n w (half true F)) (set-allowed n w _ ok₀) (set-allowed n w _ ok₁)
+    (join-within n _ _ (setOf n w (half false F)) (setOf n w (half true F)) (set-allowed n w _ ok₀)
     (r₀ .0) (r₁ .0) c (choose-member n s d (set-allowed n (suc w) F ok)) (r₀ .1) (r₁ .1))
 
 pub reload : (n w : ℕ) (F : Leaves) (d : ℕ) → AllAllowed n w F

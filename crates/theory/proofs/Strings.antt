@@ -1,17 +1,18 @@
 -- Counting over all strings: each string of at most w bits stands once in `strings w`, and a count over them is taken apart
 -- at the first bit.
 use mathlib.Core.Path.{_≡_, refl, sym, ap, ap₂, _∙_}
-use mathlib.Core.Bool.{Bool, true, false, cond}
+use mathlib.Core.Bool.{Bool, true, false, cond, _||_}
+use mathlib.Core.Logic.{inl, inr, ⊎-elim}
 use mathlib.Core.List.{List, [], _∷_, _++_, map, append-assoc}
 use Prim.Native.Nat.{ℕ, zero, suc, _+_, _≤_, _<_}
 use native.Mathlib.Omega.{arith}
 use native.Mathlib.Nat.{add-assoc}
 use lib.ListN.{length}
 use mathlib.Core.Option.{Option, none, some}
-use Rattle.theory.specs.Bits.{Bits, same, strings, count}
+use Rattle.theory.specs.Bits.{Bits, same, strings, count, some-of}
 use Rattle.theory.specs.Ledger.{Ledger, Entry, below, line, lines, routes}
 use Rattle.theory.specs.Smallest.{move, under}
-use Rattle.theory.proofs.Hops.{never}
+use Rattle.theory.proofs.Hops.{by-test, never, or-either, or-right}
 
 -- The test for equal strings.
 pub same-self : (s : Bits) → same s s ≡ true
@@ -92,3 +93,50 @@ routes-down w L =
     ap (λ t. line [] (L []) ++ t)
     (lines-append L (map (λ s. false ∷ s) (strings w)) (map (λ s. true ∷ s) (strings w))
     ∙ ap₂ _++_ (lines-under false L (strings w)) (lines-under true L (strings w)))
+
+-- Whether some string passes a test.
+module _ {A : Type 0} where
+  pub some-append : (p : A → Bool) (xs ys : List A) → some-of p (xs ++ ys) ≡ (some-of p xs || some-of p ys)
+  some-append p [] ys = refl
+  some-append p (x ∷ xs) ys = elim (p x) as (λ b. cond b true (some-of p (xs ++ ys)) ≡ (cond b true (some-of p xs) || some-of p ys)) [
+    | true ↦ refl
+    | false ↦ some-append p xs ys
+  ]
+
+pub some-map : {A B : Type 0} (p : B → Bool) (f : A → B) (xs : List A) → some-of p (map f xs) ≡ some-of (λ x. p (f x)) xs
+some-map p f [] = refl
+some-map p f (x ∷ xs) = ap (λ b. cond (p (f x)) true b) (some-map p f xs)
+
+pub some-down : (p : Bits → Bool) (w : ℕ)
+    → some-of p (strings (suc w)) ≡ cond (p []) true (some-of (λ s. p (false ∷ s)) (strings w) || some-of (λ s. p (true ∷ s)) (strings w))
+some-down p w =
+    ap (λ b. cond (p []) true b)
+    (some-append p (map (λ s. false ∷ s) (strings w)) (map (λ s. true ∷ s) (strings w))
+    ∙ ap₂ _||_ (some-map p (λ s. false ∷ s) (strings w)) (some-map p (λ s. true ∷ s) (strings w)))
+
+later : (a : Bool) {b : Bool} → b ≡ true → cond a true b ≡ true
+later true e = refl
+later false e = e
+
+-- in plain words: one does exactly when there is one of at most w bits that does
+pub some-of-string : (p : Bits → Bool) (w : ℕ) (s : Bits) → length s ≤ w → p s ≡ true → some-of p (strings w) ≡ true
+some-of-string p zero [] l e = rw e
+some-of-string p zero (b ∷ s) l e = absurd (omega arith)
+some-of-string p (suc w) [] l e = some-down p w ∙ rw e
+some-of-string p (suc w) (false ∷ s) l e =
+    some-down p w ∙ later (p []) (rw (some-of-string (λ t. p (false ∷ t)) w s (omega arith) e))
+some-of-string p (suc w) (true ∷ s) l e =
+    some-down p w ∙ later (p []) (or-right (some-of (λ t. p (false ∷ t)) (strings w)) _ (some-of-string (λ t. p (true ∷ t)) w s (omega arith) e))
+
+pub string-of-some : (p : Bits → Bool) (w : ℕ) → some-of p (strings w) ≡ true → (s : Bits) × (length s ≤ w) × (p s ≡ true)
+string-of-some p zero e = elim (by-test (p [])) [ inl h ↦ ([], omega arith, h) | inr h ↦ never (rw h at e) refl ]
+string-of-some p (suc w) e =
+    elim (by-test (p [])) [
+      | inl h ↦ ([], omega arith, h)
+      | inr h ↦
+          let both = rw h at (sym (some-down p w) ∙ e) in
+          ⊎-elim
+          (λ f. let r = string-of-some (λ t. p (false ∷ t)) w f in (false ∷ r .0, omega (arith, r .1), r .2))
+          (λ f. let r = string-of-some (λ t. p (true ∷ t)) w f in (true ∷ r .0, omega (arith, r .1), r .2))
+          (or-either _ _ both)
+    ]

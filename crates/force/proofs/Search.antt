@@ -6,8 +6,8 @@ use lib.ListN.{length}
 use Rattle.theory.specs.Bits.{Each}
 use Rattle.theory.specs.Hops.{join}
 use Rattle.theory.proofs.Order.{each-of-map}
-use Rattle.cases.specs.Search.{round, rounds, passes}
-use Rattle.cases.specs.Tempting.{byDefinition, alwaysUnion, leastAlways}
+use Rattle.force.specs.Search.{round, rounds, passes}
+use Rattle.force.specs.Writers.{byDefinition, alwaysUnion, leastAlways}
 
 computed : map (passes byDefinition) rounds ≡ map (λ r. true) rounds
 unfolding join

@@ -1,13 +1,13 @@
--- What document 01 calls tempting and wrong, as writers: each changes one thing in the definitions.
+-- The writers that are tried: the definitions, and two that document 01 calls tempting and wrong, each with one thing changed.
 use mathlib.Core.Bool.{true, false, cond}
-use mathlib.Core.List.{List, [], _∷_, _++_}
+use mathlib.Core.List.{List, [], _++_}
 use mathlib.Core.Option.{Option, none, some}
 use Prim.Native.Nat.{ℕ, zero, suc}
 use lib.Dec.{eqb}
 use Rattle.theory.specs.Hops.{Hops, only, join, union, least}
-use Rattle.theory.specs.Ledger.{Ledger, Entry, _via_, isHeld, orElse}
+use Rattle.theory.specs.Ledger.{Entry, orElse}
 use Rattle.theory.specs.Smallest.{Leaves, half, entry, here, under, table}
-use Rattle.cases.specs.Search.{Row, Writer, hopAt}
+use Rattle.force.specs.Search.{Row, Writer, hopAt}
 
 -- a table by any rule for sets and any rule for entries
 abbrev setBy : (Hops → Hops → Hops) → ℕ → Leaves → Hops
@@ -38,8 +38,3 @@ leastRule n x d = cond (eqb (least n x) d) none (some (least n x))
 
 abbrev pub leastAlways : Writer
 leastAlways w hops row = tableBy (join (suc hops)) (leastRule (suc hops)) w (rowLeaves w row) 0
-
--- forgetting the entries for strings that were never held
-abbrev pub heldOnly : Ledger ℕ → List Entry → List Entry
-heldOnly L [] = []
-heldOnly L (s via h ∷ es) = cond (isHeld (L s)) (s via h ∷ heldOnly L es) (heldOnly L es)

@@ -1,11 +1,12 @@
--- SMALL WIDTHS BY FORCE: every forwarding, against every table of that width that has fewer entries than the written one.
+-- SMALL WIDTHS BY FORCE: for every forwarding, the least number of entries with which a table of that width leaves it is
+-- found by going through the tables, those with fewer entries first, and held against the table that a writer hands back.
 -- The search knows nothing of sets, strings or longest match: a table is a run of brush strokes on a row of 2 ^ w addresses,
 -- wide strokes first, and what is left on the row is the forwarding. A writer, which is what is tested, comes in as a
 -- parameter: it gets a row and hands back entries.
 use mathlib.Core.Bool.{Bool, true, false, cond, not, _&&_, _||_}
 use mathlib.Core.List.{List, [], _∷_, _++_, map}
 use Prim.Native.Nat.{ℕ, zero, suc, _+_, _-_, _*_, _/_, _%_, _^_}
-use lib.Dec.{eqb, leb}
+use lib.Dec.{eqb, ltb}
 use lib.ListN.{length, getD, replicate}
 use Rattle.theory.specs.Bits.{Bits}
 use Rattle.theory.specs.Ledger.{Entry, _via_}
@@ -57,16 +58,16 @@ abbrev pub eachHop : ℕ → (ℕ → ℕ → ℕ) → ℕ → ℕ
 eachHop zero try found = found
 eachHop (suc h) try found = try (suc h) (eachHop h try found)
 
-abbrev pub search : ℕ → List Place → ℕ → Row → ℕ → ℕ
-search hops [] k row found = mark hops row found
-search hops (p ∷ ps) zero row found = mark hops row found
-search hops (at over size ∷ ps) (suc k) row found =
-    eachHop hops (λ h f. search hops ps k (paint at size h row) f) (search hops ps (suc k) row found)
+abbrev pub everyTable : ℕ → List Place → ℕ → Row → ℕ → ℕ
+everyTable hops [] k row found = mark hops row found
+everyTable hops (p ∷ ps) zero row found = mark hops row found
+everyTable hops (at over size ∷ ps) (suc k) row found =
+    eachHop hops (λ h f. everyTable hops ps k (paint at size h row) f) (everyTable hops ps (suc k) row found)
 
--- the rows that tables of at most k entries leave, for k below m
+-- the rows that tables of at most k entries leave, for each k from 0 to m
 abbrev pub reachable : ℕ → ℕ → ℕ → List ℕ
-reachable w hops zero = []
-reachable w hops (suc k) = reachable w hops k ++ search hops (places w) k (replicate (2 ^ w) 0) 0 ∷ []
+reachable w hops zero = everyTable hops (places w) 0 (replicate (2 ^ w) 0) 0 ∷ []
+reachable w hops (suc k) = reachable w hops k ++ everyTable hops (places w) (suc k) (replicate (2 ^ w) 0) 0 ∷ []
 
 -- every full row of n addresses
 abbrev pub rows : ℕ → ℕ → List Row
@@ -106,11 +107,16 @@ sameRow [] (y ∷ ys) = false
 sameRow (x ∷ xs) [] = false
 sameRow (x ∷ xs) (y ∷ ys) = eqb x y && sameRow xs ys
 
--- THE TEST of one row: the written entries leave it, and no table with fewer does
+-- the least k for which some table of at most k entries leaves the row; past the end of the list where none does
+abbrev pub leastCount : ℕ → Row → List ℕ → ℕ
+leastCount hops row [] = 0
+leastCount hops row (found ∷ more) = cond (reached hops row found) 0 (suc (leastCount hops row more))
+
+-- THE TEST of one row: the written entries leave it, and are as many as the least table has
 abbrev pub smallest : ℕ → ℕ → List ℕ → Row → List Entry → Bool
 smallest w hops found row es =
     sameRow (left w es (replicate (2 ^ w) 0)) row
-    && (leb (length es) (length found) && not (reached hops row (getD found (length es - 1) 0)))
+    && (eqb (length es) (leastCount hops row found) && ltb (length es) (length found))
 
 abbrev every : (Row → Bool) → List Row → Bool
 every p [] = true
@@ -120,7 +126,7 @@ every p (r ∷ rs) = p r && every p rs
 abbrev pub Writer : Type 0
 Writer = ℕ → ℕ → Row → List Entry
 
--- every row of 2 ^ w addresses with hops 1 to `hops`; no table may have more than `most` entries
+-- every row of 2 ^ w addresses with hops 1 to `hops`; tables of at most `most` entries are gone through
 pub data Round : Type 0 where
   round : ℕ → ℕ → ℕ → Round
 
@@ -129,10 +135,11 @@ passes writer (round w hops most) =
     let found = reachable w hops most in
     every (λ row. smallest w hops found row (writer w hops row)) (rows (2 ^ w) hops)
 
--- widths 1 and 2 with up to 3 hops, width 3 with up to 2
+-- widths 1 and 2 with up to 3 hops: all tables, of up to one entry a place; width 3 with up to 2 hops: all of up to 5
+-- entries, and no forwarding needs more
 abbrev pub rounds : List Round
 rounds =
-    round 1 1 1 ∷ round 1 2 2 ∷ round 1 3 2
-    ∷ round 2 1 1 ∷ round 2 2 3 ∷ round 2 3 3
-    ∷ round 3 1 1 ∷ round 3 2 5
+    round 1 1 3 ∷ round 1 2 3 ∷ round 1 3 3
+    ∷ round 2 1 7 ∷ round 2 2 7 ∷ round 2 3 7
+    ∷ round 3 1 5 ∷ round 3 2 5
     ∷ []

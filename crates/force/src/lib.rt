@@ -1,0 +1,1 @@
+// Small widths are searched by the checker; there is no code here.
