@@ -3,3 +3,4 @@ pub mod Records
 pub mod Plain
 pub mod Slots
 pub mod Ipv4
+pub mod Room

@@ -12,3 +12,4 @@ pub mod Held
 pub mod OneHop
 pub mod Updates
 pub mod Theorem
+pub mod Pigeonhole
