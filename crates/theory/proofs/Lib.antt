@@ -13,3 +13,4 @@ pub mod OneHop
 pub mod Updates
 pub mod Theorem
 pub mod Pigeonhole
+pub mod Walk
