@@ -10,20 +10,11 @@ use lib.ListN.{length, take, getD, length-reverse}
 use lib.Seq.{take-all, take-suc, take-append-le}
 use lib.Dec.{eqb}
 use borrow.Author.Tests.{eqb-true, eqb-false}
-use Rattle.theory.specs.Bits.{Bits, same, bitsOf}
+use Rattle.theory.specs.Bits.{Bits, same, bitsOf, front, prefixOf}
 use Rattle.theory.specs.Ledger.{Ledger, orElse, below, longest}
 use Rattle.theory.proofs.Hops.{by-test, never}
 use Rattle.theory.proofs.Strings.{same-self, same-true}
 use Rattle.theory.proofs.Address.{bits-length}
-
--- the first d bits of a path, the last of them first
-abbrev pub front : (ℕ → Bool) → ℕ → Bits
-front f zero = []
-front f (suc d) = f d ∷ front f d
-
--- the first d bits of a path, as a prefix
-abbrev pub prefixOf : (ℕ → Bool) → ℕ → Bits
-prefixOf f d = reverse (front f d)
 
 -- what is in force after d bits: what is held there, or else what was in force one bit before
 module _ {A : Type 0} where
@@ -31,13 +22,7 @@ module _ {A : Type 0} where
   best L d f zero = orElse (L []) d
   best L d f (suc k) = orElse (L (prefixOf f (suc k))) (best L d f k)
 
--- Reversing keeps the length, undoes itself, and makes no strings equal.
-pub reverse-length : (s : Bits) → length (reverse s) ≡ length s
-reverse-length s = length-reverse s
-
-pub reverse-twice : (s : Bits) → reverse (reverse s) ≡ s
-reverse-twice s = reverse-reverse s
-
+-- Reversing makes no strings equal.
 pub same-reverse : (s t : Bits) → same (reverse s) (reverse t) ≡ same s t
 same-reverse s t =
     elim (by-test (same s t)) [
@@ -45,7 +30,7 @@ same-reverse s t =
       | inr e ↦
           elim (by-test (same (reverse s) (reverse t))) [
             | inl q ↦
-                let equal = sym (reverse-twice s) ∙ ap reverse (same-true (reverse s) (reverse t) q) ∙ reverse-twice t in
+                let equal = sym (reverse-reverse s) ∙ ap reverse (same-true (reverse s) (reverse t) q) ∙ reverse-reverse t in
                 never (rw equal (same-self t)) e
             | inr q ↦ q ∙ sym e
           ]
@@ -61,7 +46,7 @@ front-front f g zero h = refl
 front-front f g (suc d) h = ap₂ _∷_ (h d (omega arith)) (front-front f g d (λ i l. h i (omega arith)))
 
 pub prefix-length : (f : ℕ → Bool) (d : ℕ) → length (prefixOf f d) ≡ d
-prefix-length f d = reverse-length (front f d) ∙ front-length f d
+prefix-length f d = length-reverse (front f d) ∙ front-length f d
 
 -- one step puts one bit behind
 pub prefix-suc : (f : ℕ → Bool) (d : ℕ) → prefixOf f (suc d) ≡ prefixOf f d ++ (f d ∷ [])

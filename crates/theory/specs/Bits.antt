@@ -1,7 +1,7 @@
 -- Bit strings: what prefixes and addresses are to the theory.
 -- A string is a list of bits, the first bit first. An address of width w is a string of w bits; a prefix is any string.
 use mathlib.Core.Bool.{Bool, true, false, cond, _&&_, Bool·beq}
-use mathlib.Core.List.{List, [], _∷_, _++_, map}
+use mathlib.Core.List.{List, [], _∷_, _++_, map, reverse}
 use Prim.Native.Nat.{ℕ, zero, suc, _+_, _/_, _%_, _^_}
 use lib.Dec.{eqb}
 
@@ -25,6 +25,15 @@ abbrev pub addressOf : ℕ → Bits → ℕ
 addressOf zero s = 0
 addressOf (suc w) [] = 0
 addressOf (suc w) (b ∷ s) = cond b (2 ^ w) 0 + addressOf w s
+
+-- A path gives its bits by their places, from the first on: its first d bits with the last of them first, as a walk leaves
+-- them behind, and as a prefix
+abbrev pub front : (ℕ → Bool) → ℕ → Bits
+front f zero = []
+front f (suc d) = f d ∷ front f d
+
+abbrev pub prefixOf : (ℕ → Bool) → ℕ → Bits
+prefixOf f d = reverse (front f d)
 
 -- all strings of length 0 to w, each once, by address and then by length
 abbrev pub strings : ℕ → List Bits

@@ -1,0 +1,84 @@
+-- The ledger that a memory holds, read along a path: a prefix's slot has its hop, and longest match is what the walk has in force.
+use mathlib.Core.Path.{_≡_, refl, sym, ap, ap₂, _∙_}
+use mathlib.Core.Logic.{inl, inr}
+use mathlib.Core.Bool.{Bool, cond}
+use mathlib.Core.List.{[], reverse, reverse-reverse}
+use mathlib.Core.Option.{none, some}
+use Prim.Native.Nat.{ℕ, zero, suc, _+_, _-_, _≤_, _<_}
+use native.Mathlib.Omega.{arith}
+use native.Mathlib.Numerals.{add-one}
+use lib.Dec.{leb}
+use lib.ListN.{length, getD, length-reverse, List·getD-eq-default}
+use borrow.Author.Tests.{le-leb, lt-leb, le-ltb, lt-ltb, leb-true, leb-false}
+use Rattle.theory.specs.Bits.{Bits, front, prefixOf}
+use Rattle.theory.specs.Ledger.{Ledger, orElse, longest}
+use Rattle.theory.proofs.Hops.{by-test}
+use Rattle.theory.proofs.Walk.{best, prefix-length, longest-walk}
+use Rattle.rules.specs.Numbers.{lowestHop, highestHop}
+use Rattle.memory.specs.Layout.{Memory, slots, Shaped, Whole, find, readHop, hopAt, ledgerOf}
+use Rattle.memory.proofs.Find.{same-or, none-deeper, find-le}
+
+-- What a stored number stands for.
+pub hop-low : (v : ℕ) → v ≤ lowestHop → readHop v ≡ none
+unfolding readHop
+hop-low v l = rw (le-ltb lowestHop v l)
+
+pub hop-high : (v : ℕ) → suc highestHop < v → readHop v ≡ none
+unfolding readHop
+hop-high v l = rw (lt-ltb lowestHop v (omega arith), lt-leb v (suc highestHop) l)
+
+pub hop-stored : (v : ℕ) → lowestHop < v → v ≤ suc highestHop → readHop v ≡ some (v - 1)
+unfolding readHop
+hop-stored v l h = rw (lt-ltb lowestHop v l, le-leb v (suc highestHop) h)
+
+module _ (w : ℕ) (m : Memory) where
+  pub ledger-at : (s : Bits) → length s ≤ w → ledgerOf w m s ≡ hopAt m (find (m .tree) (reverse s))
+  unfolding ledgerOf
+  ledger-at s l = rw (le-leb (length s) w l)
+
+  pub ledger-long : (s : Bits) → w < length s → ledgerOf w m s ≡ none
+  unfolding ledgerOf
+  ledger-long s l = rw (lt-leb (length s) w l)
+
+  pub ledger-front : (f : ℕ → Bool) (d : ℕ) → d ≤ w → ledgerOf w m (prefixOf f d) ≡ hopAt m (find (m .tree) (front f d))
+  ledger-front f d l =
+      ledger-at (prefixOf f d) (omega (arith, prefix-length f d)) ∙ ap (λ s. hopAt m (find (m .tree) s)) (reverse-reverse (front f d))
+
+  module _ (whole : Whole m) where
+    pub no-hop : (k : ℕ) → slots (m .tree) ≤ k → hopAt m k ≡ none
+    no-hop k l = rw (List·getD-eq-default (m .hop) 0 {n = k} (omega (arith, whole .hops))) (hop-low 0 (omega arith))
+
+    -- where one bit more of a path has no slot, what is in force stays so
+    pub best-stays : (f : ℕ → Bool) (x d e : ℕ) → find (m .tree) (front f (suc d)) ≡ slots (m .tree) → d ≤ e → e ≤ w
+        → best (ledgerOf w m) x f d ≡ best (ledgerOf w m) x f e
+    best-stays f x d zero h l u = let q : d ≡ 0 = omega arith in ap (best (ledgerOf w m) x f) q
+    best-stays f x d (suc e) h l u =
+        elim (same-or d (suc e)) [
+          | inl q ↦ ap (best (ledgerOf w m) x f) q
+          | inr q ↦
+              let none-here : find (m .tree) (front f (suc e)) ≡ slots (m .tree) = none-deeper (m .tree) (whole .shaped) f (suc d) (suc e) h (omega arith) in
+              let not-held : ledgerOf w m (prefixOf f (suc e)) ≡ none =
+              ledger-front f (suc e) u ∙ no-hop (find (m .tree) (front f (suc e))) (omega arith) in
+              best-stays f x d e h (omega arith) (omega arith) ∙ sym (ap (λ o. orElse o (best (ledgerOf w m) x f e)) not-held)
+        ]
+
+  -- LONGEST MATCH BY A WALK: what is in force at first, after one bit more, and at the end
+  module _ (f : ℕ → Bool) (x : ℕ) where
+    pub best-first : {r : ℕ} → r ≡ orElse (hopAt m 0) x → r ≡ best (ledgerOf w m) x f 0
+    best-first e = e ∙ ap (λ o. orElse o x) (sym (ledger-at [] (omega arith)))
+
+    pub best-next : (d : ℕ) {k above r : ℕ} → k ≡ find (m .tree) (front f (d + 1)) → above ≡ best (ledgerOf w m) x f d → d < w
+        → r ≡ orElse (hopAt m k) above → r ≡ best (ledgerOf w m) x f (d + 1)
+    best-next d {k} {above} {r} e q l h =
+        rw add-one (h ∙ ap₂ orElse (ap (hopAt m) (rw add-one at e) ∙ sym (ledger-front f (suc d) (omega arith))) q)
+
+    pub longest-whole : (d : ℕ) {found : ℕ} → found ≡ best (ledgerOf w m) x f d → d ≡ w → found ≡ longest (ledgerOf w m) x (prefixOf f w)
+    longest-whole d e q = e ∙ ap (best (ledgerOf w m) x f) q ∙ sym (longest-walk (ledgerOf w m) x f w)
+
+    pub longest-stopped : Whole m → (d : ℕ) {k found : ℕ} → k ≡ find (m .tree) (front f (d + 1)) → slots (m .tree) ≤ k → d < w
+        → found ≡ best (ledgerOf w m) x f d → found ≡ longest (ledgerOf w m) x (prefixOf f w)
+    longest-stopped whole d {k} {found} e n l q =
+        let here : find (m .tree) (front f (suc d)) ≡ slots (m .tree) =
+        let same-slot : k ≡ find (m .tree) (front f (suc d)) = rw add-one at e in
+        omega (arith, find-le (m .tree) (whole .shaped) (front f (suc d))) in
+        q ∙ best-stays whole f x d w here (omega arith) (omega arith) ∙ sym (longest-walk (ledgerOf w m) x f w)

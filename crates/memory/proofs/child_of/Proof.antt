@@ -1,0 +1,52 @@
+-- The tests are those of a link that counts: it is not 0, it names a slot, and that slot carries the mark.
+use mathlib.Core.Path.{_∙_, sym}
+use native.Mathlib.Omega.{arith}
+use Rattle.memory.specs.Layout.{treeOf}
+use Rattle.memory.proofs.Find.{child-none, child-counts, counts-below}
+use borrow.Author.Needs.{needs}
+use Rattle.memory.proofs.child_of.Statement.{statement}
+use Rattle.memory.proofs.child_of.Tie as tie
+
+link-of-requires : tie.Need-link-of-requires
+link-of-requires c κs = search needs
+
+returns : tie.Need-returns
+returns c = child-none (treeOf (c .before .before .before .before .before .args .lo .now) (c .before .before .before .before .before .args .hi .now) (c .before .before .before .before .before .args .up .now)) (c .before .before .before .before .before .args .right) (c .before .before .before .before .before .args .slot) (c .before .link-of .result) (c .before .link-of .ensures) (λ k. omega (arith, k .positive))
+
+returns-2 : tie.Need-returns-2
+returns-2 c = child-none (treeOf (c .before .before .before .before .before .before .args .lo .now) (c .before .before .before .before .before .before .args .hi .now) (c .before .before .before .before .before .before .args .up .now)) (c .before .before .before .before .before .before .args .right) (c .before .before .before .before .before .before .args .slot) (c .before .before .link-of .result) (c .before .before .link-of .ensures)
+    (λ k. omega (arith, counts-below (treeOf (c .before .before .before .before .before .before .args .lo .now) (c .before .before .before .before .before .before .args .hi .now) (c .before .before .before .before .before .before .args .up .now)) (c .before .before .before .before .before .before .args .right) (c .before .before .before .before .before .before .args .slot) _ k))
+
+mul-wide : tie.Need-mul-wide
+mul-wide c = search needs
+
+shared-slice-read-wide : tie.Need-shared-slice-read-wide
+shared-slice-read-wide c = search needs
+
+wide-requires : tie.Need-wide-requires
+wide-requires c κs = search needs
+
+mark-of-requires : tie.Need-mark-of-requires
+mark-of-requires c κs = search needs
+
+returns-3 : tie.Need-returns-3
+returns-3 c = child-none (treeOf (c .before .before .before .before .before .before .before .before .before .before .args .lo .now) (c .before .before .before .before .before .before .before .before .before .before .args .hi .now) (c .before .before .before .before .before .before .before .before .before .before .args .up .now)) (c .before .before .before .before .before .before .before .before .before .before .args .right) (c .before .before .before .before .before .before .before .before .before .before .args .slot) (c .before .before .before .before .before .before .link-of .result) (c .before .before .before .before .before .before .link-of .ensures)
+    (λ k. c .if3 .taken (c .before .before .wide .ensures ∙ k .marked ∙ sym (c .before .mark-of .ensures)))
+
+returns-4 : tie.Need-returns-4
+returns-4 c = sym (child-counts (treeOf (c .before .before .before .before .before .before .before .before .before .before .args .lo .now) (c .before .before .before .before .before .before .before .before .before .before .args .hi .now) (c .before .before .before .before .before .before .before .before .before .before .args .up .now)) (c .before .before .before .before .before .before .before .before .before .before .args .right) (c .before .before .before .before .before .before .before .before .before .before .args .slot) (c .before .before .before .before .before .before .link-of .result)
+    record { positive = omega arith; linked = sym (c .before .before .before .before .before .before .link-of .ensures); marked = sym (c .before .before .wide .ensures) ∙ c .if3 .left ∙ c .before .mark-of .ensures })
+
+pub child-of-spec : {M : Type 1} → statement M
+child-of-spec =
+    tie.close
+    (tie.spec
+    link-of-requires
+    returns
+    returns-2
+    mul-wide
+    shared-slice-read-wide
+    wide-requires
+    mark-of-requires
+    returns-3
+    returns-4)

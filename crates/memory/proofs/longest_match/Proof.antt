@@ -1,0 +1,90 @@
+-- At each turn the slot is that of the bits passed and the hop is the one in force there; where the walk finds no slot, it stays.
+use borrow.Author.Needs.{needs}
+use mathlib.Core.Path.{_≡_, refl}
+use Prim.Native.Nat.{_+_, _≤_, _<_, _-_}
+use native.Mathlib.Omega.{arith}
+use lib.ListN.{length}
+use Rattle.theory.specs.Bits.{front}
+use Rattle.theory.proofs.Walk.{best}
+use Rattle.rules.specs.Numbers.{noRoute}
+use Rattle.memory.specs.Path.{pathBit}
+use Rattle.memory.specs.Layout.{treeOf, memoryOf, find, ledgerOf}
+use Rattle.memory.proofs.Find.{step-front}
+use Rattle.memory.proofs.Ledger.{best-first, best-next, longest-whole, longest-stopped}
+use Rattle.memory.proofs.longest_match.Statement.{statement}
+use Rattle.memory.proofs.longest_match.Tie as tie
+
+abbrev Inv-loop : tie.InvT-loop
+Inv-loop lo hi up hop path width slot₀ depth₀ found₀ slot depth found = (depth ≤ width) × (slot < length up) × (slot ≡ find (treeOf lo hi up) (front (pathBit path) depth))
+    × (found ≡ best (ledgerOf width (memoryOf lo hi up hop)) noRoute (pathBit path) depth)
+
+abbrev μ-loop : tie.MeasureT-loop
+μ-loop lo hi up hop path width slot₀ depth₀ found₀ slot depth found = width - depth
+
+mul-hop-or : tie.Need-mul-hop-or Inv-loop μ-loop
+mul-hop-or c = omega arith
+
+shared-slice-read-hop-or : tie.Need-shared-slice-read-hop-or Inv-loop μ-loop
+shared-slice-read-hop-or c = omega (arith, c .before .before .before .before .before .pre .0 .hops, c .before .before .before .before .before .pre .0 .shaped .some-slot)
+
+hop-or-requires : tie.Need-hop-or-requires Inv-loop μ-loop
+hop-or-requires c κs = search needs
+
+loop-holds : tie.Need-loop-holds Inv-loop μ-loop
+loop-holds c = (omega arith, omega (arith, c .before .before .before .before .before .before .pre .0 .shaped .some-slot), refl, best-first (c .before .before .before .before .before .before .args .width) (memoryOf (c .before .before .before .before .before .before .args .lo .now) (c .before .before .before .before .before .before .args .hi .now) (c .before .before .before .before .before .before .args .up .now) (c .before .before .before .before .before .before .args .hop .now)) (pathBit (c .before .before .before .before .before .before .args .path)) noRoute (c .hop-or .ensures))
+
+bit-requires : tie.Need-bit-requires Inv-loop μ-loop
+bit-requires c κs = omega (arith, c .before .loop .inv .0, c .before .before .before .before .before .before .before .before .pre .1)
+
+child-of-requires : tie.Need-child-of-requires Inv-loop μ-loop
+child-of-requires c κs = (c .before .before .before .before .before .before .before .before .before .pre .0 .shaped, c .before .before .loop .inv .1)
+
+add-depth : tie.Need-add-depth Inv-loop μ-loop
+add-depth c = omega arith
+
+returns : tie.Need-returns Inv-loop μ-loop
+returns c = longest-stopped (c .before .before .before .before .before .before .before .before .before .before .before .args .width) (memoryOf (c .before .before .before .before .before .before .before .before .before .before .before .args .lo .now) (c .before .before .before .before .before .before .before .before .before .before .before .args .hi .now) (c .before .before .before .before .before .before .before .before .before .before .before .args .up .now) (c .before .before .before .before .before .before .before .before .before .before .before .args .hop .now)) (pathBit (c .before .before .before .before .before .before .before .before .before .before .before .args .path)) noRoute (c .before .before .before .before .before .before .before .before .before .before .before .pre .0) (c .before .before .before .before .loop .depth) (step-front (treeOf (c .before .before .before .before .before .before .before .before .before .before .before .args .lo .now) (c .before .before .before .before .before .before .before .before .before .before .before .args .hi .now) (c .before .before .before .before .before .before .before .before .before .before .before .args .up .now)) (pathBit (c .before .before .before .before .before .before .before .before .before .before .before .args .path)) (c .before .before .before .before .loop .depth) (c .before .before .before .before .loop .inv .2) (c .before .before .bit .ensures) (c .before .child-of .ensures)) (c .if1 .taken) (omega arith) (c .before .before .before .before .loop .inv .3)
+
+mul-hop-or-2 : tie.Need-mul-hop-or-2 Inv-loop μ-loop
+mul-hop-or-2 c = search needs
+
+shared-slice-read-hop-or-2 : tie.Need-shared-slice-read-hop-or-2 Inv-loop μ-loop
+shared-slice-read-hop-or-2 c = omega (arith, c .before .before .before .before .before .before .before .before .before .before .before .before .pre .0 .hops)
+
+hop-or-requires-2 : tie.Need-hop-or-requires-2 Inv-loop μ-loop
+hop-or-requires-2 c κs = search needs
+
+loop-less : tie.Need-loop-less Inv-loop μ-loop
+loop-less c = omega arith
+
+loop-again : tie.Need-loop-again Inv-loop μ-loop
+loop-again c = (
+  omega arith,
+  c .before .before .if1 .left,
+  (step-front (treeOf (c .before .before .before .before .before .before .before .before .before .before .before .before .before .args .lo .now) (c .before .before .before .before .before .before .before .before .before .before .before .before .before .args .hi .now) (c .before .before .before .before .before .before .before .before .before .before .before .before .before .args .up .now)) (pathBit (c .before .before .before .before .before .before .before .before .before .before .before .before .before .args .path)) (c .before .before .before .before .before .before .loop .depth) (c .before .before .before .before .before .before .loop .inv .2) (c .before .before .before .before .bit .ensures) (c .before .before .before .child-of .ensures)),
+  best-next (c .before .before .before .before .before .before .before .before .before .before .before .before .before .args .width) (memoryOf (c .before .before .before .before .before .before .before .before .before .before .before .before .before .args .lo .now) (c .before .before .before .before .before .before .before .before .before .before .before .before .before .args .hi .now) (c .before .before .before .before .before .before .before .before .before .before .before .before .before .args .up .now) (c .before .before .before .before .before .before .before .before .before .before .before .before .before .args .hop .now)) (pathBit (c .before .before .before .before .before .before .before .before .before .before .before .before .before .args .path)) noRoute (c .before .before .before .before .before .before .loop .depth) (step-front (treeOf (c .before .before .before .before .before .before .before .before .before .before .before .before .before .args .lo .now) (c .before .before .before .before .before .before .before .before .before .before .before .before .before .args .hi .now) (c .before .before .before .before .before .before .before .before .before .before .before .before .before .args .up .now)) (pathBit (c .before .before .before .before .before .before .before .before .before .before .before .before .before .args .path)) (c .before .before .before .before .before .before .loop .depth) (c .before .before .before .before .before .before .loop .inv .2) (c .before .before .before .before .bit .ensures) (c .before .before .before .child-of .ensures)) (c .before .before .before .before .before .before .loop .inv .3) (omega arith) (c .hop-or2 .ensures),
+)
+
+returns-2 : tie.Need-returns-2 Inv-loop μ-loop
+returns-2 c = longest-whole (c .before .before .before .before .before .before .before .before .args .width) (memoryOf (c .before .before .before .before .before .before .before .before .args .lo .now) (c .before .before .before .before .before .before .before .before .args .hi .now) (c .before .before .before .before .before .before .before .before .args .up .now) (c .before .before .before .before .before .before .before .before .args .hop .now)) (pathBit (c .before .before .before .before .before .before .before .before .args .path)) noRoute (c .before .loop .depth) (c .before .loop .inv .3) (omega arith)
+
+pub longest-match-spec : {M : Type 1} → statement M
+longest-match-spec =
+    tie.close
+    (tie.spec
+    Inv-loop
+    μ-loop
+    mul-hop-or
+    shared-slice-read-hop-or
+    hop-or-requires
+    loop-holds
+    bit-requires
+    child-of-requires
+    add-depth
+    returns
+    mul-hop-or-2
+    shared-slice-read-hop-or-2
+    hop-or-requires-2
+    loop-less
+    loop-again
+    returns-2)

@@ -1,0 +1,62 @@
+-- At each turn the slot is that of the bits passed; where these have none, more bits have none.
+use mathlib.Core.Path.{_≡_, refl, subst}
+use Prim.Native.Nat.{_+_, _≤_, _<_, _-_}
+use native.Mathlib.Omega.{arith}
+use lib.ListN.{length}
+use Rattle.theory.specs.Bits.{front}
+use Rattle.memory.specs.Path.{pathBit}
+use Rattle.memory.specs.Layout.{treeOf, find}
+use Rattle.memory.proofs.Find.{step-front, stop-here}
+use Rattle.memory.proofs.seek.Statement.{statement}
+use Rattle.memory.proofs.seek.Tie as tie
+
+abbrev Inv-loop : tie.InvT-loop
+Inv-loop lo hi up path size slot₀ depth₀ slot depth = (depth ≤ size) × (slot < length up) × (slot ≡ find (treeOf lo hi up) (front (pathBit path) depth))
+
+abbrev μ-loop : tie.MeasureT-loop
+μ-loop lo hi up path size slot₀ depth₀ slot depth = size - depth
+
+loop-holds : tie.Need-loop-holds Inv-loop μ-loop
+loop-holds c = (omega arith, omega (arith, c .before .before .before .pre .0 .some-slot), refl)
+
+bit-requires : tie.Need-bit-requires Inv-loop μ-loop
+bit-requires c κs = omega (arith, c .before .loop .inv .0, c .before .before .before .before .before .pre .1)
+
+child-of-requires : tie.Need-child-of-requires Inv-loop μ-loop
+child-of-requires c κs = (c .before .before .before .before .before .before .pre .0, c .before .before .loop .inv .1)
+
+add-depth : tie.Need-add-depth Inv-loop μ-loop
+add-depth c = omega arith
+
+returns : tie.Need-returns Inv-loop μ-loop
+returns c =
+    stop-here (treeOf (c .before .before .before .before .before .before .before .before .args .lo .now) (c .before .before .before .before .before .before .before .before .args .hi .now) (c .before .before .before .before .before .before .before .before .args .up .now)) (c .before .before .before .before .before .before .before .before .pre .0) (pathBit (c .before .before .before .before .before .before .before .before .args .path)) (c .before .before .before .before .loop .depth + 1) (c .before .before .before .before .before .before .before .before .args .size)
+    (step-front (treeOf (c .before .before .before .before .before .before .before .before .args .lo .now) (c .before .before .before .before .before .before .before .before .args .hi .now) (c .before .before .before .before .before .before .before .before .args .up .now)) (pathBit (c .before .before .before .before .before .before .before .before .args .path)) (c .before .before .before .before .loop .depth) (c .before .before .before .before .loop .inv .2) (c .before .before .bit .ensures) (c .before .child-of .ensures))
+    (c .if1 .taken) (omega arith)
+
+loop-less : tie.Need-loop-less Inv-loop μ-loop
+loop-less c = omega arith
+
+loop-again : tie.Need-loop-again Inv-loop μ-loop
+loop-again c = (omega arith, c .if1 .left, step-front (treeOf (c .before .before .before .before .before .before .before .before .args .lo .now) (c .before .before .before .before .before .before .before .before .args .hi .now) (c .before .before .before .before .before .before .before .before .args .up .now)) (pathBit (c .before .before .before .before .before .before .before .before .args .path)) (c .before .before .before .before .loop .depth) (c .before .before .before .before .loop .inv .2) (c .before .before .bit .ensures) (c .before .child-of .ensures))
+
+returns-2 : tie.Need-returns-2 Inv-loop μ-loop
+returns-2 c =
+    let whole-walk : c .before .loop .depth ≡ c .before .before .before .before .before .args .size = omega arith in
+    subst (λ d. c .before .loop .slot ≡ find (treeOf (c .before .before .before .before .before .args .lo .now) (c .before .before .before .before .before .args .hi .now) (c .before .before .before .before .before .args .up .now)) (front (pathBit (c .before .before .before .before .before .args .path)) d))
+    whole-walk (c .before .loop .inv .2)
+
+pub seek-spec : {M : Type 1} → statement M
+seek-spec =
+    tie.close
+    (tie.spec
+    Inv-loop
+    μ-loop
+    loop-holds
+    bit-requires
+    child-of-requires
+    add-depth
+    returns
+    loop-less
+    loop-again
+    returns-2)

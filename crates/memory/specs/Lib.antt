@@ -1,0 +1,3 @@
+pub mod Path
+pub mod Layout
+pub mod Tidy

@@ -1,0 +1,43 @@
+-- TIDY memory: what our calls make of zeroed memory, and keep. Each slot is free, or in use for a string that is held or leads
+-- on; so the strings with slots are exactly those that the ledger needs (memory/proofs/Tidy), and the memory is fixed by its
+-- ledger but for which slot a string lies in and the chain of free slots.
+use mathlib.Core.Path.{_≡_}
+use mathlib.Core.Logic.{_⊎_}
+use mathlib.Core.Bool.{Bool, true, false, not, _&&_, _||_}
+use mathlib.Core.Option.{none}
+use Prim.Native.Nat.{ℕ, _-_, _≤_, _<_}
+use lib.Dec.{eqb}
+use lib.ListN.{length, getD}
+use Rattle.theory.specs.Bits.{Bits}
+use Rattle.theory.specs.Ledger.{isHeld}
+use Rattle.memory.specs.Layout.{Memory, slots, link, child, find, hopAt}
+
+-- a bare slot: it holds no hop, and with bits left it leads to no child
+unfoldable pub bare : Memory → ℕ → ℕ → Bool
+bare m left k =
+    not (isHeld (hopAt m k))
+    && (eqb left 0 || (eqb (child (m .tree) false k) (slots (m .tree)) && eqb (child (m .tree) true k) (slots (m .tree))))
+
+-- a free slot: all zero, but for `lo`, which has the hint to the next free one
+pub record Free (m : Memory) (k : ℕ) : Type 0 where
+  pub no-mark : getD (m .tree .up) k 0 ≡ 0
+  pub no-hi : getD (m .tree .hi) k 0 ≡ 0
+  pub no-hop : getD (m .hop) k 0 ≡ 0
+
+-- a slot in use: a string of at most w bits lies in it, and it is not bare
+pub record Used (w : ℕ) (m : Memory) (k : ℕ) : Type 0 where
+  pub string : Bits
+  pub short : length string ≤ w
+  pub there : find (m .tree) string ≡ k
+  pub busy : bare m (w - length string) k ≡ false
+
+-- Memory is tidy but for one slot while an update works on that one; slot 0 is never free, so `TidyBut w m 0` is tidy.
+pub record TidyBut (w : ℕ) (m : Memory) (tip : ℕ) : Type 0 where
+  pub each-slot : (k : ℕ) → 0 < k → k < slots (m .tree) → (k ≡ tip → ⊥) → Free m k ⊎ Used w m k
+  -- of a slot in use, a link that counts for nothing is 0, and so is a hop that stands for none
+  pub neat : (k : ℕ) (b : Bool) → (k ≡ 0) ⊎ (0 < getD (m .tree .up) k 0)
+      → (link (m .tree) b k ≡ 0) ⊎ (child (m .tree) b k ≡ link (m .tree) b k)
+  pub plain : (k : ℕ) → hopAt m k ≡ none → getD (m .hop) k 0 ≡ 0
+
+abbrev pub Tidy : ℕ → Memory → Type 0
+Tidy w m = TidyBut w m 0

@@ -1,0 +1,133 @@
+// Reading lent memory as a ledger: a child, the slot of a string, longest match. docs/LAYOUT.md has the layout. Nothing here
+// knows how long an address is: a caller says how many bits of a path it walks.
+ghost use mathlib.Core.Path.{_≡_};
+ghost use Prim.Native.Nat.{_<_, _≤_};
+ghost use lib.ListN.{length};
+ghost use Rattle.theory.specs.Bits.{front, prefixOf};
+ghost use Rattle.theory.specs.Ledger.{orElse, longest};
+ghost use Rattle.rules.specs.Numbers.{noRoute};
+ghost use Rattle.memory.specs.Path.{pathBit, pathBits};
+ghost use Rattle.memory.specs.Layout.{treeOf, memoryOf, slots, layoutSlots, Shaped, Whole, linkIn, mark, child, find, readHop, ledgerOf};
+
+// The bits of an address, the first one highest: 64 in `high`, the next 64 in `low`.
+pub struct Path {
+    pub high: u64,
+    pub low: u64,
+}
+
+pub fn wide(x: u32) -> usize
+    ensures { λ r. ⌜ r ≡ x ⌝ }
+{
+    x as usize
+}
+
+// The bit at a place, counted from the first.
+pub fn bit(path: Path, place: usize) -> bool
+    requires { ⌜ place < pathBits ⌝ }
+    ensures { λ r. ⌜ r ≡ pathBit path place ⌝ }
+{
+    if place < 64 {
+        (path.high >> (63 - place)) % 2 == 1
+    } else {
+        (path.low >> (127 - place)) % 2 == 1
+    }
+}
+
+// The number that a slot's link behind a bit has, whether it counts or not.
+pub fn link_of(lo: &[u32], hi: &[u32], slot: usize, right: bool) -> usize
+    requires { ⌜ (slot < length (now lo)) × (slot < length (now hi)) ⌝ }
+    ensures { λ r. ⌜ r ≡ linkIn (now (lo .entry)) (now (hi .entry)) right slot ⌝ }
+{
+    if right {
+        wide(hi[slot])
+    } else {
+        wide(lo[slot])
+    }
+}
+
+// The mark that a slot's child behind a bit carries in `up`.
+pub fn mark_of(slot: usize, right: bool) -> usize
+    requires { ⌜ slot < layoutSlots ⌝ }
+    ensures { λ r. ⌜ r ≡ mark slot right ⌝ }
+{
+    if right { 2 * slot + 2 } else { 2 * slot + 1 }
+}
+
+// The child of a slot behind a bit, or the number of slots where it has none.
+pub fn child_of(lo: &[u32], hi: &[u32], up: &[u32], slot: usize, right: bool) -> usize
+    requires { ⌜ Shaped (treeOf (now lo) (now hi) (now up)) × (slot < length (now up)) ⌝ }
+    ensures { λ r. ⌜ r ≡ child (treeOf (now (lo .entry)) (now (hi .entry)) (now (up .entry))) right slot ⌝ }
+{
+    let next = link_of(lo, hi, slot, right);
+    if next == 0 {
+        return up.len();
+    }
+    if next >= up.len() {
+        return up.len();
+    }
+    if wide(up[next]) != mark_of(slot, right) {
+        return up.len();
+    }
+    next
+}
+
+// The slot of a path's first bits, `size` of them, or the number of slots where they have none.
+pub fn seek(lo: &[u32], hi: &[u32], up: &[u32], path: Path, size: usize) -> usize
+    requires { ⌜ Shaped (treeOf (now lo) (now hi) (now up)) × (size ≤ pathBits) ⌝ }
+    ensures { λ r. ⌜ r ≡ find (treeOf (now (lo .entry)) (now (hi .entry)) (now (up .entry))) (front (pathBit path) size) ⌝ }
+{
+    let mut slot: usize = 0;
+    let mut depth: usize = 0;
+    while depth < size {
+        slot = child_of(lo, hi, up, slot, bit(path, depth));
+        depth += 1;
+        if slot >= up.len() {
+            return slot;
+        }
+    }
+    slot
+}
+
+// The hop that a slot's number stands for, or else the one in force above.
+fn hop_or(stored: u32, above: u32) -> u32
+    ensures { λ r. ⌜ r ≡ orElse (readHop stored) above ⌝ }
+{
+    if stored <= LOWEST_HOP {
+        return above;
+    }
+    if stored > HIGHEST_HOP + 1 {
+        return above;
+    }
+    stored - 1
+}
+
+// Longest match for an address of `width` bits: its hop, or 0 for no route.
+pub fn longest_match(
+    lo: &[u32],
+    hi: &[u32],
+    up: &[u32],
+    hop: &[u32],
+    path: Path,
+    width: usize,
+) -> u32
+    requires { ⌜ Whole (memoryOf (now lo) (now hi) (now up) (now hop)) × (width ≤ pathBits) ⌝ }
+    ensures { λ r. ⌜ r ≡ longest (ledgerOf width (memoryOf (now (lo .entry)) (now (hi .entry)) (now (up .entry)) (now (hop .entry)))) noRoute (prefixOf (pathBit path) width) ⌝ }
+{
+    let mut slot: usize = 0;
+    let mut depth: usize = 0;
+    let mut found = hop_or(hop[slot], 0);
+    while depth < width {
+        slot = child_of(lo, hi, up, slot, bit(path, depth));
+        depth += 1;
+        if slot >= up.len() {
+            return found;
+        }
+        found = hop_or(hop[slot], found);
+    }
+    found
+}
+
+// The hops that may be announced: document 01's numbers, as rules/specs/Numbers has them.
+pub const LOWEST_HOP: u32 = 1;
+
+pub const HIGHEST_HOP: u32 = 64;
