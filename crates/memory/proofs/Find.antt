@@ -21,6 +21,12 @@ same-or a b = elim (by-test (eqb a b)) [ inl e ↦ inl (eqb-true a b e) | inr e 
 pub below-or : (a b : ℕ) → (a < b) ⊎ (b ≤ a)
 below-or a b = elim (by-test (leb b a)) [ inl e ↦ inr (leb-true b a e) | inr e ↦ inl (leb-false b a e) ]
 
+pub strictly : (a b : ℕ) → a ≤ b → (a ≡ b → ⊥) → a < b
+strictly a b l h = elim (below-or a b) [ inl q ↦ q | inr q ↦ absurd (h (omega arith)) ]
+
+pub not-none : (k : ℕ) → (k ≡ 0 → ⊥) → 0 < k
+not-none k h = strictly 0 k (omega arith) (λ e. h (sym e))
+
 -- an element that is not 0 stands within its list
 pub within : (l : List ℕ) (k : ℕ) → 0 < getD l k 0 → k < length l
 within l k h = elim (below-or k (length l)) [ inl e ↦ e | inr e ↦ absurd (omega (arith, List·getD-eq-default l 0 e)) ]
@@ -97,6 +103,9 @@ module _ (t : Tree) (shaped : Shaped t) where
   pub link-below : (b : Bool) (p : ℕ) → 0 < link t b p → p < slots t
   link-below true p h = omega (arith, within (t .hi) p h, shaped .his)
   link-below false p h = omega (arith, within (t .lo) p h, shaped .los)
+
+  pub link-outside : (b : Bool) (p : ℕ) → slots t ≤ p → link t b p ≡ 0
+  link-outside b p l = elim (same-or (link t b p) 0) [ inl e ↦ e | inr e ↦ absurd (omega (arith, link-below b p (not-none (link t b p) e))) ]
 
   pub parent-below : {b : Bool} {p c : ℕ} → Counts t b p c → p < slots t
   parent-below {b} {p} k = link-below b p (omega (arith, k .positive, k .linked))

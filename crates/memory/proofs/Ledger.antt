@@ -11,7 +11,7 @@ use lib.Dec.{leb}
 use lib.ListN.{length, getD, length-reverse, List·getD-eq-default}
 use borrow.Author.Tests.{le-leb, lt-leb, le-ltb, lt-ltb, leb-true, leb-false}
 use Rattle.theory.specs.Bits.{Bits, front, prefixOf}
-use Rattle.theory.specs.Ledger.{Ledger, orElse, longest}
+use Rattle.theory.specs.Ledger.{isHeld, orElse, longest}
 use Rattle.theory.proofs.Hops.{by-test}
 use Rattle.theory.proofs.Walk.{best, prefix-length, longest-walk}
 use Rattle.rules.specs.Numbers.{lowestHop, highestHop}
@@ -30,6 +30,13 @@ hop-high v l = rw (lt-ltb lowestHop v (omega arith), lt-leb v (suc highestHop) l
 pub hop-stored : (v : ℕ) → lowestHop < v → v ≤ suc highestHop → readHop v ≡ some (v - 1)
 unfolding readHop
 hop-stored v l h = rw (lt-ltb lowestHop v l, le-leb v (suc highestHop) h)
+
+pub hop-test : (v : ℕ) → lowestHop < v → leb v (suc highestHop) ≡ isHeld (readHop v)
+hop-test v l =
+    elim (by-test (leb v (suc highestHop))) [
+      | inl e ↦ rw (e, hop-stored v l (leb-true v (suc highestHop) e))
+      | inr e ↦ rw (e, hop-high v (leb-false v (suc highestHop) e))
+    ]
 
 module _ (w : ℕ) (m : Memory) where
   pub ledger-at : (s : Bits) → length s ≤ w → ledgerOf w m s ≡ hopAt m (find (m .tree) (reverse s))

@@ -1,2 +1,4 @@
 pub mod Find
 pub mod Ledger
+pub mod Bare
+pub mod Room

@@ -4,7 +4,7 @@ ghost use mathlib.Core.Path.{_≡_};
 ghost use Prim.Native.Nat.{_<_, _≤_};
 ghost use lib.ListN.{length};
 ghost use Rattle.theory.specs.Bits.{front, prefixOf};
-ghost use Rattle.theory.specs.Ledger.{orElse, longest};
+ghost use Rattle.theory.specs.Ledger.{isHeld, orElse, longest};
 ghost use Rattle.rules.specs.Numbers.{noRoute};
 ghost use Rattle.memory.specs.Path.{pathBit, pathBits};
 ghost use Rattle.memory.specs.Layout.{treeOf, memoryOf, slots, layoutSlots, Shaped, Whole, linkIn, mark, child, find, readHop, ledgerOf};
@@ -86,6 +86,16 @@ pub fn seek(lo: &[u32], hi: &[u32], up: &[u32], path: Path, size: usize) -> usiz
         }
     }
     slot
+}
+
+// Does a slot's number stand for a hop?
+pub fn holds(stored: u32) -> bool
+    ensures { λ r. ⌜ r ≡ isHeld (readHop stored) ⌝ }
+{
+    if stored <= LOWEST_HOP {
+        return false;
+    }
+    stored <= HIGHEST_HOP + 1
 }
 
 // The hop that a slot's number stands for, or else the one in force above.

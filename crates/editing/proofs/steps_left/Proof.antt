@@ -1,0 +1,90 @@
+-- Each turn goes one step up; the answer is what is left to be found from there.
+use borrow.Author.Needs.{needs}
+use mathlib.Core.Path.{_≡_, refl, sym, ap, _∙_}
+use Prim.Native.Nat.{_-_, _/_, _%_, _≤_, _<_}
+use native.Mathlib.Omega.{arith}
+use lib.ListN.{length}
+use lib.Dec.{eqb}
+use Rattle.memory.specs.Layout.{treeOf}
+use Rattle.memory.proofs.Find.{not-none, link-outside}
+use Rattle.editing.specs.Spare.{rises}
+use Rattle.editing.proofs.Rising.{rises-none, rises-unmarked, rises-lost, rises-on, rises-top}
+use Rattle.editing.proofs.steps_left.Statement.{statement}
+use Rattle.editing.proofs.steps_left.Tie as tie
+
+abbrev Inv-loop : tie.InvT-loop
+Inv-loop lo hi up slot width at₀ left₀ at left = (at < length up) × (left ≤ width) × (rises (treeOf lo hi up) width slot ≡ rises (treeOf lo hi up) left at)
+
+abbrev μ-loop : tie.MeasureT-loop
+μ-loop lo hi up slot width at₀ left₀ at left = left
+
+loop-holds : tie.Need-loop-holds Inv-loop μ-loop
+loop-holds c = (c .before .before .before .pre .1, omega arith, refl)
+
+returns : tie.Need-returns Inv-loop μ-loop
+returns c = sym (c .before .before .loop .inv .2 ∙ ap (λ x. rises (treeOf (c .before .before .before .before .before .before .args .lo .now) (c .before .before .before .before .before .before .args .hi .now) (c .before .before .before .before .before .before .args .up .now)) x (c .before .before .loop .at)) (c .if1 .taken) ∙ rises-none (treeOf (c .before .before .before .before .before .before .args .lo .now) (c .before .before .before .before .before .before .args .hi .now) (c .before .before .before .before .before .before .args .up .now)) (c .before .before .loop .at) (c .before .loop-test .taken))
+
+mul-wide : tie.Need-mul-wide Inv-loop μ-loop
+mul-wide c = search needs
+
+shared-slice-read-wide : tie.Need-shared-slice-read-wide Inv-loop μ-loop
+shared-slice-read-wide c = search needs
+
+wide-requires : tie.Need-wide-requires Inv-loop μ-loop
+wide-requires c κs = search needs
+
+returns-2 : tie.Need-returns-2 Inv-loop μ-loop
+returns-2 c = sym (c .before .before .before .before .before .loop .inv .2 ∙ rises-unmarked (treeOf (c .before .before .before .before .before .before .before .before .before .args .lo .now) (c .before .before .before .before .before .before .before .before .before .args .hi .now) (c .before .before .before .before .before .before .before .before .before .args .up .now)) (c .before .before .before .before .before .loop .left) (c .before .before .before .before .before .loop .at) (not-none _ (c .before .before .before .before .loop-test .taken)) (sym (c .before .wide .ensures) ∙ c .if2 .taken))
+
+sub-parent : tie.Need-sub-parent Inv-loop μ-loop
+sub-parent c = search needs
+
+returns-3 : tie.Need-returns-3 Inv-loop μ-loop
+returns-3 c = sym (c .before .before .before .before .before .before .loop .inv .2 ∙ rises-lost (treeOf (c .before .before .before .before .before .before .before .before .before .before .args .lo .now) (c .before .before .before .before .before .before .before .before .before .before .args .hi .now) (c .before .before .before .before .before .before .before .before .before .before .args .up .now)) (c .before .before .before .before .before .before .loop .left) (c .before .before .before .before .before .before .loop .at) (c .before .before .wide .result) 0 (c .before .before .wide .ensures)
+    (sym (link-outside (treeOf (c .before .before .before .before .before .before .before .before .before .before .args .lo .now) (c .before .before .before .before .before .before .before .before .before .before .args .hi .now) (c .before .before .before .before .before .before .before .before .before .before .args .up .now)) (c .before .before .before .before .before .before .before .before .before .before .pre .0) (eqb (c .before .before .wide .result % 2) 0) ((c .before .before .wide .result - 1) / 2) (c .if3 .taken))) (c .before .before .before .before .before .loop-test .taken) (λ e. c .before .before .before .before .before .loop-test .taken (sym e)))
+
+link-of-requires : tie.Need-link-of-requires Inv-loop μ-loop
+link-of-requires c κs = (omega (arith, c .before .before .before .before .before .before .before .before .before .before .pre .0 .los, c .if3 .left), omega (arith, c .before .before .before .before .before .before .before .before .before .before .pre .0 .his, c .if3 .left))
+
+returns-4 : tie.Need-returns-4 Inv-loop μ-loop
+returns-4 c = sym (c .before .before .before .before .before .before .before .before .loop .inv .2 ∙ rises-lost (treeOf (c .before .before .before .before .before .before .before .before .before .before .before .before .args .lo .now) (c .before .before .before .before .before .before .before .before .before .before .before .before .args .hi .now) (c .before .before .before .before .before .before .before .before .before .before .before .before .args .up .now)) (c .before .before .before .before .before .before .before .before .loop .left) (c .before .before .before .before .before .before .before .before .loop .at) (c .before .before .before .before .wide .result) (c .before .link-of .result) (c .before .before .before .before .wide .ensures) (c .before .link-of .ensures)
+    (c .before .before .before .before .before .before .before .loop-test .taken) (c .if4 .taken))
+
+sub-left : tie.Need-sub-left Inv-loop μ-loop
+sub-left c = search needs
+
+loop-less : tie.Need-loop-less Inv-loop μ-loop
+loop-less c = search needs
+
+loop-again : tie.Need-loop-again Inv-loop μ-loop
+loop-again c = (c .before .before .if3 .left, omega arith,
+    c .before .before .before .before .before .before .before .before .loop .inv .2 ∙ rises-on (treeOf (c .before .before .before .before .before .before .before .before .before .before .before .before .args .lo .now) (c .before .before .before .before .before .before .before .before .before .before .before .before .args .hi .now) (c .before .before .before .before .before .before .before .before .before .before .before .before .args .up .now)) (c .before .before .before .before .before .before .before .before .loop .left) (c .before .before .before .before .before .before .before .before .loop .at) (c .before .before .before .before .wide .result) (c .before .link-of .result) (c .before .before .before .before .wide .ensures) (c .before .link-of .ensures)
+    (c .before .before .before .before .before .before .before .loop-test .taken) (not-none _ (c .before .before .before .before .before .before .if1 .left)) (c .before .before .before .if2 .left) (c .if4 .left))
+
+add-result : tie.Need-add-result Inv-loop μ-loop
+add-result c = search needs
+
+returns-5 : tie.Need-returns-5 Inv-loop μ-loop
+returns-5 c = sym (c .before .loop .inv .2 ∙ ap (rises (treeOf (c .before .before .before .before .before .args .lo .now) (c .before .before .before .before .before .args .hi .now) (c .before .before .before .before .before .args .up .now)) (c .before .loop .left)) (c .loop-test .left) ∙ rises-top (treeOf (c .before .before .before .before .before .args .lo .now) (c .before .before .before .before .before .args .hi .now) (c .before .before .before .before .before .args .up .now)) (c .before .loop .left))
+
+pub steps-left-spec : {M : Type 1} → statement M
+steps-left-spec =
+    tie.close
+    (tie.spec
+    Inv-loop
+    μ-loop
+    loop-holds
+    returns
+    mul-wide
+    shared-slice-read-wide
+    wide-requires
+    returns-2
+    sub-parent
+    returns-3
+    link-of-requires
+    returns-4
+    sub-left
+    loop-less
+    loop-again
+    add-result
+    returns-5)

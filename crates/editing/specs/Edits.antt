@@ -1,0 +1,38 @@
+-- The two edits of the tree, place by place: a slot is hung below another, and a slot is taken out.
+use mathlib.Core.Path.{_≡_}
+use mathlib.Core.Bool.{Bool, true}
+use Prim.Native.Nat.{ℕ, _≤_, _<_}
+use lib.ListN.{getD, set}
+use Rattle.memory.specs.Layout.{Memory, slots, Whole, link, mark, holdsLedger}
+
+-- what both keep: the number of slots, and that the memory holds a ledger
+pub record Kept (m m' : Memory) : Type 0 where
+  pub same-slots : slots (m' .tree) ≡ slots (m .tree)
+  pub whole : Whole m'
+  pub ledger : holdsLedger (m .tree) ≡ true → holdsLedger (m' .tree) ≡ true
+
+-- slot k, empty, is now the child of slot p behind bit b
+pub record Hung (m m' : Memory) (p : ℕ) (b : Bool) (k : ℕ) : Type 0 where
+  pub kept : Kept m m'
+  pub new-link : link (m' .tree) b p ≡ k
+  pub no-links : (c : Bool) → link (m' .tree) c k ≡ 0
+  pub other-links : (x : ℕ) (c : Bool) → (x ≡ k → ⊥) → (x ≡ p → c ≡ b → ⊥) → link (m' .tree) c x ≡ link (m .tree) c x
+  pub new-mark : getD (m' .tree .up) k 0 ≡ mark p b
+  pub other-marks : (x : ℕ) → 0 < x → (x ≡ k → ⊥) → getD (m' .tree .up) x 0 ≡ getD (m .tree .up) x 0
+  pub no-hop : getD (m' .hop) k 0 ≡ 0
+  pub other-hops : (x : ℕ) → (x ≡ k → ⊥) → getD (m' .hop) x 0 ≡ getD (m .hop) x 0
+
+-- slot k, which was the child of slot p behind bit b, is free
+pub record Dropped (m m' : Memory) (p : ℕ) (b : Bool) (k : ℕ) : Type 0 where
+  pub kept : Kept m m'
+  pub no-link : link (m' .tree) b p ≡ 0
+  pub other-links : (x : ℕ) (c : Bool) → (x ≡ k → ⊥) → (x ≡ p → c ≡ b → ⊥) → link (m' .tree) c x ≡ link (m .tree) c x
+  pub no-mark : getD (m' .tree .up) k 0 ≡ 0
+  pub other-marks : (x : ℕ) → 0 < x → (x ≡ k → ⊥) → getD (m' .tree .up) x 0 ≡ getD (m .tree .up) x 0
+  pub no-hi : link (m' .tree) true k ≡ 0
+  pub no-hop : getD (m' .hop) k 0 ≡ 0
+  pub other-hops : (x : ℕ) → (x ≡ k → ⊥) → getD (m' .hop) x 0 ≡ getD (m .hop) x 0
+
+-- slot k has another number for its hop
+abbrev pub rehop : Memory → ℕ → ℕ → Memory
+rehop m k v = record { tree = m .tree; hop = set (m .hop) k v }
