@@ -1,0 +1,2 @@
+pub mod Follow
+pub mod Scan
