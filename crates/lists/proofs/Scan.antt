@@ -18,9 +18,9 @@ use Rattle.rules.specs.Records.{announces, withdraws, lookup, Reading, means, f
 use Rattle.rules.specs.Lookup.{hopOf, Scanned, scanOn, scanAll, scanned, Answer, lookedUp}
 use Rattle.records.specs.declared.Record.{Record}
 use Rattle.records.specs.declared.Record.the-variants.{Announces, Withdraws, Faulty}
-use Rattle.records.specs.Contract.{readingOf, InBounds, ReadsRecord}
+use Rattle.records.specs.Promise.{readingOf, InBounds, ReadsRecord}
 use Rattle.lists.specs.declared.Found.the-variants.{Hop, Refused}
-use Rattle.lists.specs.Contract.{answerOf, LooksUpList}
+use Rattle.lists.specs.Promise.{answerOf, LooksUpList}
 use Rattle.lists.specs.Best.{BestIn, Follows}
 use Rattle.lists.proofs.Follow.{best-longest}
 

@@ -9,7 +9,7 @@ use Rattle.theory.specs.Bits.{Bits, bitsOf}
 use Rattle.theory.specs.Ledger.{Ledger, announce}
 use Rattle.rules.specs.Numbers.{ipv4, width, noRoute}
 use Rattle.records.specs.Masks.{maskTable}
-use Rattle.records.specs.Contract.{IsPrefix}
+use Rattle.records.specs.Promise.{IsPrefix}
 
 -- what is held at a level
 abbrev pub Holds : Ledger ℕ → Bits → ℕ → ℕ → Type 0

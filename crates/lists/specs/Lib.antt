@@ -1,2 +1,2 @@
-pub mod Contract
+pub mod Promise
 pub mod Best

@@ -1,9 +1,9 @@
 // Lookup in a record list, in one pass and constant work for each record.
-ghost use Rattle.lists.specs.Contract.{LooksUpList};
+ghost use Rattle.lists.specs.Promise.{LooksUpList};
 ghost use Rattle.lists.specs.Best.{CanCompare, Follows};
 
 use records::Record;
-use records::numbers::{BAD_ACTION, BAD_LIST_LENGTH, NO_ROUTE, RECORD};
+use records::numbers::{BAD_ACTION, BAD_LIST_LENGTH, LENGTHS, NO_ROUTE, RECORD};
 
 // The hop of an address, 0 for no route; or the number of a refusal, and the place of the first bad record.
 pub enum Found {
@@ -18,7 +18,7 @@ struct Best {
 }
 
 // The best match once the list's next route is announced: the longer one, and of two for the same prefix the later.
-fn better(best: Best, address: u32, prefix: u32, size: usize, hop: u32, masks: &[u32; 33]) -> Best
+fn better(best: Best, address: u32, prefix: u32, size: usize, hop: u32, masks: &[u32; LENGTHS]) -> Best
     requires { ⌜ CanCompare prefix size (now masks) ⌝ }
     ensures { λ r. ⌜ Follows address prefix size hop (best .level) (best .hop) (r .level) (r .hop) ⌝ }
 {
@@ -43,6 +43,7 @@ pub fn lookup_list(list: &[u8], address: u32) -> Found
     let mut best = Best { level: 0, hop: NO_ROUTE };
     let mut at = 0;
     while at < list.len() {
+        let end = at + RECORD;
         let next = records::read_record(list, at, false, &masks);
         match next {
             Record::Announces { address: prefix, size, hop } => {
@@ -55,7 +56,7 @@ pub fn lookup_list(list: &[u8], address: u32) -> Found
                 return Found::Refused { number, place: at / RECORD };
             }
         }
-        at += RECORD;
+        at = end;
     }
     Found::Hop { hop: best.hop }
 }

@@ -19,7 +19,7 @@ use Rattle.theory.proofs.Hops.{by-test}
 use Rattle.theory.proofs.Address.{bits-length, prefix-of-address}
 use Rattle.rules.specs.Numbers.{ipv4, width}
 use Rattle.records.specs.Masks.{maskTable}
-use Rattle.records.specs.Contract.{IsPrefix}
+use Rattle.records.specs.Promise.{IsPrefix}
 use Rattle.records.proofs.Masks.{masked, clear-tail}
 
 -- the first l bits' address, with the rest of the number, is the number

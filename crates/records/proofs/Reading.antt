@@ -17,7 +17,7 @@ use Rattle.rules.specs.Numbers.{ipv4, width, recordBytes, announceAction, withd
 use Rattle.rules.specs.Records.{number, announces, withdraws, Fields, fieldsOf, Use, update, lookup, takesWithdrawals, strayBits, badHopFor, fieldRules, firstFault, Reading, means, faulty, meaning, faultOr, read}
 use Rattle.records.specs.declared.Record.{Record}
 use Rattle.records.specs.declared.Record.the-variants.{Announces, Withdraws, Faulty}
-use Rattle.records.specs.Contract.{readingOf, useOf, IsPrefix, IsRoute, IsFault, InBounds, ReadsRecord}
+use Rattle.records.specs.Promise.{readingOf, useOf, IsPrefix, IsRoute, IsFault, InBounds, ReadsRecord}
 
 -- Numbers in a list's bytes.
 drop-two : (l : List ℕ) (at : ℕ) → at + 2 ≤ length l → drop at l ≡ getD l at 0 ∷ getD l (at + 1) 0 ∷ drop (at + 2) l

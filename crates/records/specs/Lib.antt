@@ -1,2 +1,2 @@
 pub mod Masks
-pub mod Contract
+pub mod Promise

@@ -4,12 +4,12 @@ ghost use Prim.Native.Nat.{_+_, _<_, _≤_};
 ghost use lib.ListN.{length, take, drop};
 ghost use Rattle.rules.specs.Records.{number};
 ghost use Rattle.records.specs.Masks.{maskTable};
-ghost use Rattle.records.specs.Contract.{CanRead, ReadsRecord};
+ghost use Rattle.records.specs.Promise.{CanRead, ReadsRecord};
 
 pub mod numbers; // numbers.rt: the numbers of document 01, and the masks
 
 use numbers::{
-    ACTION_AT, ANNOUNCE, BAD_ACTION, BAD_HOP, BAD_PREFIX_LENGTH, HIGHEST_HOP, HOP_AT, LOWEST_HOP, MASKS, NO_HOP, SIZE_AT, STRAY_BIT,
+    ACTION_AT, ANNOUNCE, BAD_ACTION, BAD_HOP, BAD_PREFIX_LENGTH, HIGHEST_HOP, HOP_AT, LENGTHS, LOWEST_HOP, MASKS, NO_HOP, SIZE_AT, STRAY_BIT,
     WIDTH, WITHDRAW,
 };
 
@@ -30,7 +30,7 @@ pub enum Record {
 }
 
 // The masks. A caller takes them once for a whole list, and lends them for each record.
-pub fn mask_table() -> [u32; 33]
+pub fn mask_table() -> [u32; LENGTHS]
     ensures { λ r. ⌜ r ≡ maskTable ⌝ }
 {
     MASKS
@@ -59,7 +59,7 @@ pub fn four_bytes(list: &[u8], at: usize) -> u32
 }
 
 // The record that stands in the 8 bytes at `at`. The rules are tried in the order of their numbers.
-pub fn read_record(list: &[u8], at: usize, withdrawals: bool, masks: &[u32; 33]) -> Record
+pub fn read_record(list: &[u8], at: usize, withdrawals: bool, masks: &[u32; LENGTHS]) -> Record
     requires { ⌜ CanRead (now list) at (now masks) ⌝ }
     ensures { λ r. ⌜ ReadsRecord (now (list .entry)) at withdrawals r ⌝ }
 {

@@ -3,6 +3,9 @@
 // An address has this many bits, and a prefix at most as many.
 pub const WIDTH: usize = 32;
 
+// The lengths that a prefix may have: 0 to 32.
+pub const LENGTHS: usize = WIDTH + 1;
+
 // A record has this many bytes, and its fields stand at these places.
 pub const RECORD: usize = 8;
 pub const SIZE_AT: usize = 4;
@@ -27,7 +30,7 @@ pub const BAD_ACTION: u32 = 6;
 pub const BAD_HOP: u32 = 7;
 
 // The mask of length l has its highest l bits set.
-pub const MASKS: [u32; 33] = [
+pub const MASKS: [u32; LENGTHS] = [
     0x00000000,
     0x80000000,
     0xC0000000,

@@ -8,15 +8,10 @@ use lib.ListN.{length}
 use denote.Ref.{now}
 use borrow.Author.Needs.{needs}
 use Rattle.records.specs.declared.Record.the-variants.{Announces}
-use Rattle.records.specs.Contract.{InBounds, ReadsRecord}
+use Rattle.records.specs.Promise.{InBounds, ReadsRecord}
 use Rattle.lists.proofs.Scan.{Ahead, bad-length, at-first, fits-here, faulty-here, withdrawal-here, announcement-here, at-last}
 use Rattle.lists.proofs.lookup_list.Statement.{statement}
 use Rattle.lists.proofs.lookup_list.Tie as tie
-use Rattle.lists.proofs.lookup_list.Reads as reads
-use Rattle.lists.proofs.lookup_list.Lts as lts
-use Rattle.lists.proofs.better.Reads as better-reads
-use Rattle.records.proofs.mask_table.Reads as mask-table-reads
-use Rattle.records.proofs.read_record.Reads as read-record-reads
 
 abbrev Inv-loop : tie.InvT-loop
 Inv-loop list address masks best₀ at₀ best at = Ahead list address at (best .level) (best .hop)
@@ -24,71 +19,67 @@ Inv-loop list address masks best₀ at₀ best at = Ahead list address at (best 
 abbrev μ-loop : tie.MeasureT-loop
 μ-loop list address masks best₀ at₀ best at = length list - at
 
--- in the arm of an announcement, the record read is that announcement
+-- in the arm of an announcement, the record that was read is that announcement
 announced : (c : tie.After-next Inv-loop μ-loop)
-    → ReadsRecord (now (c .before .before .before .before .before .before .before .before .before .args .list)) (c .before .before .before .before .before .loop .at) false
+    → ReadsRecord (now (c .before .before .before .before .before .before .before .before .before .args .list))
+    (c .before .before .before .before .before .loop .at) false
     (Announces (c .next .given .0 .0) (c .next .given .0 .1 .0) (c .next .given .0 .1 .1 .0))
 announced c = subst (ReadsRecord _ _ false) (c .next .given .1) (c .before .before .read-record .ensures)
 
--- src/lib.rt:40:9
 returns : tie.Need-returns Inv-loop μ-loop
 returns c = bad-length _ _ (c .if1 .taken)
 
--- src/lib.rt:42:17
 mask-table-requires : tie.Need-mask-table-requires Inv-loop μ-loop
 mask-table-requires c κs = search needs
 
--- src/lib.rt:45:5
 loop-holds : tie.Need-loop-holds Inv-loop μ-loop
 loop-holds c = at-first _ _ (c .before .if1 .left)
 
--- src/lib.rt:46:13
-read-record-requires : tie.Need-read-record-requires Inv-loop μ-loop
-read-record-requires c κs = record { whole = fits-here (c .before .before .loop .inv) (c .before .loop-test .taken); table = c .before .before .before .mask-table .ensures }
+add-end : tie.Need-add-end Inv-loop μ-loop
+add-end c = omega (arith, fits-here (c .before .loop .inv) (c .loop-test .taken))
 
--- src/lib.rt:48:42
+read-record-requires : tie.Need-read-record-requires Inv-loop μ-loop
+read-record-requires c κs =
+    let head = c .before .before in
+    record { whole = fits-here (head .loop .inv) (c .before .loop-test .taken); table = head .before .mask-table .ensures }
+
 enum-known-next : tie.Need-enum-known-next Inv-loop μ-loop
 enum-known-next c = search needs
 
--- src/lib.rt:49:17
 better-requires : tie.Need-better-requires Inv-loop μ-loop
 unfolding InBounds
-better-requires c κs = record { proper = announced (c .before .before) .bounds .prefix; table = c .before .before .before .before .before .before .before .before .mask-table .ensures }
+better-requires c κs =
+    let arm = c .before .before in
+    let head = arm .before .before .before .before .before in
+    record { proper = announced arm .bounds .prefix; table = head .before .mask-table .ensures }
 
--- src/lib.rt:52:68
 enum-told : tie.Need-enum-told Inv-loop μ-loop
 enum-told c = search needs
 
--- src/lib.rt:52:17
 returns-2 : tie.Need-returns-2 Inv-loop μ-loop
 returns-2 c =
-    withdrawal-here (c .before .before .before .before .before .loop .inv) (c .before .before .before .before .loop-test .taken) _ _
+    let turn = c .before .before .before .before in
+    withdrawal-here (turn .before .loop .inv) (turn .loop-test .taken) _ _
     (subst (ReadsRecord _ _ false) (c .enum-told .given .1) (c .before .before .read-record .ensures))
 
--- src/lib.rt:54:30
 enum-known-next-2 : tie.Need-enum-known-next-2 Inv-loop μ-loop
 enum-known-next-2 c = search needs
 
--- src/lib.rt:55:17
 returns-3 : tie.Need-returns-3 Inv-loop μ-loop
 returns-3 c =
-    faulty-here (c .before .before .before .before .before .before .loop .inv) (c .before .before .before .before .before .loop-test .taken) _
+    let turn = c .before .before .before .before .before in
+    faulty-here (turn .before .loop .inv) (turn .loop-test .taken) _
     (subst (ReadsRecord _ _ false) (c .before .next2 .given .1) (c .before .before .before .read-record .ensures))
 
--- src/lib.rt:58:9
-add-at : tie.Need-add-at Inv-loop μ-loop
-add-at c = omega (arith, fits-here (c .before .before .before .before .before .before .before .before .loop .inv) (c .before .before .before .before .before .before .before .loop-test .taken))
-
--- src/lib.rt:45:5
 loop-less : tie.Need-loop-less Inv-loop μ-loop
 loop-less c = omega (arith, c .before .before .before .before .before .before .before .loop-test .taken)
 
--- src/lib.rt:45:5
 loop-again : tie.Need-loop-again Inv-loop μ-loop
 loop-again c =
-    announcement-here (c .before .before .before .before .before .before .before .before .loop .inv) (c .before .before .before .before .before .before .before .loop-test .taken) _ _ _ _ _ (announced (c .before .before .before)) (c .better .ensures)
+    let arm = c .before .before .before in
+    let turn = arm .before .before .before .before in
+    announcement-here (turn .before .loop .inv) (turn .loop-test .taken) _ _ _ _ _ (announced arm) (c .better .ensures)
 
--- src/lib.rt:36:1
 returns-4 : tie.Need-returns-4 Inv-loop μ-loop
 returns-4 c = at-last (c .before .loop .inv) (c .loop-test .left)
 
@@ -101,6 +92,7 @@ lookup-list-spec =
     returns
     mask-table-requires
     loop-holds
+    add-end
     read-record-requires
     enum-known-next
     better-requires
@@ -108,7 +100,6 @@ lookup-list-spec =
     returns-2
     enum-known-next-2
     returns-3
-    add-at
     loop-less
     loop-again
     returns-4)

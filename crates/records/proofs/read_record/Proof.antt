@@ -6,7 +6,7 @@ use denote.Ref.{now}
 use lib.ListN.{getD}
 use borrow.Author.Needs.{needs}
 use borrow.Author.Tests.{not-true, not-false}
-use Rattle.records.specs.Contract.{IsPrefix}
+use Rattle.records.specs.Promise.{IsPrefix}
 use Rattle.records.proofs.Masks.{kept-clear, changed-stray}
 use Rattle.records.proofs.Reading.{Fetched, answers-too-long, answers-stray, answers-low-hop, answers-high-hop, answers-announces, answers-no-withdrawals, answers-no-action, answers-withdrawn-hop, answers-withdraws}
 use Rattle.records.proofs.read_record.Statement.{statement}
