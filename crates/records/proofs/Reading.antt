@@ -2,7 +2,8 @@
 -- rule is the first that it breaks, or that it breaks none.
 use mathlib.Core.Path.{_≡_, refl, sym, ap, ap₂, _∙_}
 use mathlib.Core.Bool.{Bool, true, false, cond, not, _||_, _&&_}
-use mathlib.Core.List.{List, [], _∷_}
+use mathlib.Core.List.{List, _∷_}
+use mathlib.Core.Option.{none, some}
 use Prim.Native.Nat.{ℕ, suc, _+_, _*_, _^_, _≤_, _<_}
 use native.Mathlib.Omega.{arith}
 use native.Mathlib.Numerals.{add-one}
@@ -39,7 +40,7 @@ four-number l at h =
     ap (λ t. number (take 4 t)) whole ∙ omega (arith, later, here)
 
 -- The fields of the record at `at`.
-abbrev fieldsAt : List ℕ → ℕ → ℕ → ℕ → Fields
+abbrev pub fieldsAt : List ℕ → ℕ → ℕ → ℕ → Fields
 fieldsAt l at address hop = record { address = address; size = getD l (at + 4) 0; action = getD l (at + 5) 0; hop = hop }
 
 fields-at : (l : List ℕ) (at : ℕ) → at + 8 ≤ length l
@@ -59,45 +60,60 @@ fields-at l at h =
 abbrev judged : Use → ℕ → Fields → Reading
 judged u w f = faultOr (firstFault (fieldRules u w f)) (meaning w f)
 
-module _ (u : Use) (w : ℕ) (f : Fields) where
-  too-long : w < f .size → judged u w f ≡ faulty badPrefixLength
-  too-long h = rw (lt-ltb w (f .size) h)
+pub record Judged (u : Use) (w : ℕ) (f : Fields) (r : Reading) : Type 0 where
+  pub gives : judged u w f ≡ r
 
-  module _ (within : f .size ≤ w) where
-    stray : strayBits w (f .size) (f .address) ≡ true → judged u w f ≡ faulty strayBit
-    stray e = rw (le-ltb w (f .size) within, e)
+-- rules 4 and 5 are kept
+pub record Clean (w : ℕ) (f : Fields) : Type 0 where
+  pub within : f .size ≤ w
+  pub clear : strayBits w (f .size) (f .address) ≡ false
 
-    module _ (clear : strayBits w (f .size) (f .address) ≡ false) where
-      other-action : (f .action ≡ announceAction → ⊥) → (takesWithdrawals u && eqb (f .action) withdrawAction) ≡ false
-          → judged u w f ≡ faulty badAction
-      other-action a b = rw (le-ltb w (f .size) within, clear, ne-eqb (f .action) announceAction a, b)
+-- then the action and the hop are left to judge
+past : (u : Use) (w : ℕ) (f : Fields) → Clean w f → judged u w f
+    ≡ faultOr
+    (cond (not (eqb (f .action) announceAction || (takesWithdrawals u && eqb (f .action) withdrawAction))) (some badAction)
+    (cond (badHopFor (f .action) (f .hop)) (some badHop) none))
+    (meaning w f)
+past u w f k = rw (le-ltb w (f .size) (k .within), k .clear)
 
-      module _ (a : f .action ≡ announceAction) where
-        low-hop : f .hop < lowestHop → judged u w f ≡ faulty badHop
-        low-hop h = rw (le-ltb w (f .size) within, clear, eq-eqb (f .action) announceAction a, lt-ltb (f .hop) lowestHop h)
+module _ {u : Use} {w : ℕ} {f : Fields} where
+  pub too-long : w < f .size → Judged u w f (faulty badPrefixLength)
+  too-long h = record { gives = rw (lt-ltb w (f .size) h) }
 
-        high-hop : lowestHop ≤ f .hop → highestHop < f .hop → judged u w f ≡ faulty badHop
-        high-hop l h =
-            rw (le-ltb w (f .size) within, clear, eq-eqb (f .action) announceAction a, le-ltb (f .hop) lowestHop l, lt-ltb highestHop (f .hop) h)
+  pub stray : f .size ≤ w → strayBits w (f .size) (f .address) ≡ true → Judged u w f (faulty strayBit)
+  stray within e = record { gives = rw (le-ltb w (f .size) within, e) }
 
-        announced : lowestHop ≤ f .hop → f .hop ≤ highestHop
-            → judged u w f ≡ means (announces (take (f .size) (bitsOf w (f .address))) (f .hop))
-        announced l h =
-            rw (le-ltb w (f .size) within, clear, eq-eqb (f .action) announceAction a, le-ltb (f .hop) lowestHop l, le-ltb highestHop (f .hop) h)
+  module _ (k : Clean w f) where
+    module _ (a : f .action ≡ announceAction) where
+      pub low-hop : f .hop < lowestHop → Judged u w f (faulty badHop)
+      low-hop h = record { gives = past u w f k ∙ rw (eq-eqb (f .action) announceAction a, lt-ltb (f .hop) lowestHop h) }
 
-      module _ (takes : takesWithdrawals u ≡ true) (a : f .action ≡ announceAction → ⊥) (b : f .action ≡ withdrawAction) where
-        withdrawn-hop : (f .hop ≡ 0 → ⊥) → judged u w f ≡ faulty badHop
-        withdrawn-hop h =
-            rw (le-ltb w (f .size) within, clear, ne-eqb (f .action) announceAction a, takes, eq-eqb (f .action) withdrawAction b, ne-eqb (f .hop) 0 h)
+      pub high-hop : lowestHop ≤ f .hop → highestHop < f .hop → Judged u w f (faulty badHop)
+      high-hop l h = record { gives = past u w f k ∙ rw (eq-eqb (f .action) announceAction a, le-ltb (f .hop) lowestHop l, lt-ltb highestHop (f .hop) h) }
 
-        withdrawn : f .hop ≡ 0 → judged u w f ≡ means (withdraws (take (f .size) (bitsOf w (f .address))))
-        withdrawn h =
-            rw (le-ltb w (f .size) within, clear, ne-eqb (f .action) announceAction a, takes, eq-eqb (f .action) withdrawAction b, eq-eqb (f .hop) 0 h)
+      announced : lowestHop ≤ f .hop → f .hop ≤ highestHop
+          → Judged u w f (means (announces (take (f .size) (bitsOf w (f .address))) (f .hop)))
+      announced l h = record { gives = past u w f k ∙ rw (eq-eqb (f .action) announceAction a, le-ltb (f .hop) lowestHop l, le-ltb highestHop (f .hop) h) }
 
--- a list that is looked up takes no withdrawals; an update does
-uses : (withdrawals : Bool) → takesWithdrawals (useOf withdrawals) ≡ withdrawals
-uses true = refl
-uses false = refl
+    module _ (a : f .action ≡ announceAction → ⊥) where
+      pub no-withdrawals : takesWithdrawals u ≡ false → Judged u w f (faulty badAction)
+      no-withdrawals t = record { gives = past u w f k ∙ rw (ne-eqb (f .action) announceAction a, t) }
+
+      module _ (t : takesWithdrawals u ≡ true) where
+        pub no-action : (f .action ≡ withdrawAction → ⊥) → Judged u w f (faulty badAction)
+        no-action b = record { gives = past u w f k ∙ rw (ne-eqb (f .action) announceAction a, t, ne-eqb (f .action) withdrawAction b) }
+
+        module _ (b : f .action ≡ withdrawAction) where
+          pub withdrawn-hop : (f .hop ≡ 0 → ⊥) → Judged u w f (faulty badHop)
+          withdrawn-hop h = record { gives = past u w f k ∙ rw (ne-eqb (f .action) announceAction a, t, eq-eqb (f .action) withdrawAction b, ne-eqb (f .hop) 0 h) }
+
+          withdrawn : f .hop ≡ 0 → Judged u w f (means (withdraws (take (f .size) (bitsOf w (f .address)))))
+          withdrawn h = record { gives = past u w f k ∙ rw (ne-eqb (f .action) announceAction a, t, eq-eqb (f .action) withdrawAction b, eq-eqb (f .hop) 0 h) }
+
+-- an update takes withdrawals, and a list that is looked up does not
+pub uses : (withdrawals : Bool) {b : Bool} → withdrawals ≡ b → takesWithdrawals (useOf withdrawals) ≡ b
+uses true e = e
+uses false e = e
 
 -- The fields as the code has fetched them: address and hop are numbers of the record's bytes, length and action are bytes.
 pub record Fetched (l : List ℕ) (at address hop : ℕ) : Type 0 where
@@ -106,67 +122,35 @@ pub record Fetched (l : List ℕ) (at address hop : ℕ) : Type 0 where
   pub fits : address < 2 ^ width ipv4
   pub hop-is : hop ≡ number (take 2 (drop (at + 6) l))
 
--- WHAT IS ANSWERED after each test.
+clean-prefix : {l : List ℕ} {at address hop : ℕ} → Fetched l at address hop → Clean (width ipv4) (fieldsAt l at address hop)
+    → IsPrefix address (getD l (at + 4) 0)
+clean-prefix fetched k = record { fits = fetched .fits; within = k .within; clear = k .clear }
+
+-- WHAT IS ANSWERED is what the rules make of those fields.
 module _ {l : List ℕ} {at : ℕ} {withdrawals : Bool} {address hop : ℕ} (fetched : Fetched l at address hop) where
-  answers : (r : Record) → readingOf r ≡ judged (useOf withdrawals) (width ipv4) (fieldsAt l at address hop) → InBounds r → ReadsRecord l at withdrawals r
+  answers : (r : Record) → Judged (useOf withdrawals) (width ipv4) (fieldsAt l at address hop) (readingOf r) → InBounds r
+      → ReadsRecord l at withdrawals r
   unfolding read
   answers r e bounds = record {
-    reading = e
-        ∙ sym
+    reading = sym
         (ap (judged (useOf withdrawals) (width ipv4))
-        (fields-at l at (fetched .whole) ∙ ap₂ (fieldsAt l at) (sym (fetched .address-is)) (sym (fetched .hop-is))));
+        (fields-at l at (fetched .whole) ∙ ap₂ (fieldsAt l at) (sym (fetched .address-is)) (sym (fetched .hop-is))) ∙ e .gives);
     bounds = bounds;
   }
 
-  faults : (n : ℕ) → badPrefixLength ≤ n → n ≤ badHop → judged (useOf withdrawals) (width ipv4) (fieldsAt l at address hop) ≡ faulty n
+  pub faults : {n : ℕ} → IsFault n → Judged (useOf withdrawals) (width ipv4) (fieldsAt l at address hop) (faulty n)
       → ReadsRecord l at withdrawals (Faulty n)
   unfolding readingOf InBounds
-  faults n first last e = answers (Faulty n) (sym e) (record { first = first; last = last })
+  faults {n} numbered e = answers (Faulty n) e numbered
 
-  pub answers-too-long : width ipv4 < getD l (at + 4) 0 → ReadsRecord l at withdrawals (Faulty badPrefixLength)
-  answers-too-long h = faults badPrefixLength (omega arith) (omega arith) (too-long (useOf withdrawals) (width ipv4) (fieldsAt l at address hop) h)
-
-  pub answers-stray : getD l (at + 4) 0 ≤ width ipv4 → strayBits (width ipv4) (getD l (at + 4) 0) address ≡ true → ReadsRecord l at withdrawals (Faulty strayBit)
-  answers-stray within e = faults strayBit (omega arith) (omega arith) (stray (useOf withdrawals) (width ipv4) (fieldsAt l at address hop) within e)
-
-  module _ (p : IsPrefix address (getD l (at + 4) 0)) where
-    pub answers-low-hop : getD l (at + 5) 0 ≡ announceAction → hop < lowestHop → ReadsRecord l at withdrawals (Faulty badHop)
-    answers-low-hop a h =
-        faults badHop (omega arith) (omega arith) (low-hop (useOf withdrawals) (width ipv4) (fieldsAt l at address hop) (p .within) (p .clear) a h)
-
-    pub answers-high-hop : getD l (at + 5) 0 ≡ announceAction → lowestHop ≤ hop → highestHop < hop → ReadsRecord l at withdrawals (Faulty badHop)
-    answers-high-hop a low h =
-        faults badHop (omega arith) (omega arith) (high-hop (useOf withdrawals) (width ipv4) (fieldsAt l at address hop) (p .within) (p .clear) a low h)
-
+  module _ (k : Clean (width ipv4) (fieldsAt l at address hop)) where
     pub answers-announces : getD l (at + 5) 0 ≡ announceAction → lowestHop ≤ hop → hop ≤ highestHop
         → ReadsRecord l at withdrawals (Announces address (getD l (at + 4) 0) hop)
     unfolding readingOf InBounds
     answers-announces a low high =
-        answers (Announces address (getD l (at + 4) 0) hop)
-        (sym (announced (useOf withdrawals) (width ipv4) (fieldsAt l at address hop) (p .within) (p .clear) a low high))
-        (record { prefix = p; low = low; high = high })
+        answers (Announces address (getD l (at + 4) 0) hop) (announced k a low high) (record { prefix = clean-prefix fetched k; low = low; high = high })
 
-    pub answers-no-withdrawals : (getD l (at + 5) 0 ≡ announceAction → ⊥) → withdrawals ≡ false → ReadsRecord l at withdrawals (Faulty badAction)
-    answers-no-withdrawals a e =
-        faults badAction (omega arith) (omega arith)
-        (other-action (useOf withdrawals) (width ipv4) (fieldsAt l at address hop) (p .within) (p .clear) a (rw (uses withdrawals, e)))
-
-    module _ (e : withdrawals ≡ true) (a : getD l (at + 5) 0 ≡ announceAction → ⊥) where
-      takes : takesWithdrawals (useOf withdrawals) ≡ true
-      takes = uses withdrawals ∙ e
-
-      pub answers-no-action : (getD l (at + 5) 0 ≡ withdrawAction → ⊥) → ReadsRecord l at withdrawals (Faulty badAction)
-      answers-no-action b =
-          faults badAction (omega arith) (omega arith)
-          (other-action (useOf withdrawals) (width ipv4) (fieldsAt l at address hop) (p .within) (p .clear) a (rw (takes, ne-eqb (getD l (at + 5) 0) withdrawAction b)))
-
-      pub answers-withdrawn-hop : getD l (at + 5) 0 ≡ withdrawAction → (hop ≡ 0 → ⊥) → ReadsRecord l at withdrawals (Faulty badHop)
-      answers-withdrawn-hop b h =
-          faults badHop (omega arith) (omega arith)
-          (withdrawn-hop (useOf withdrawals) (width ipv4) (fieldsAt l at address hop) (p .within) (p .clear) takes a b h)
-
-      pub answers-withdraws : getD l (at + 5) 0 ≡ withdrawAction → hop ≡ 0 → ReadsRecord l at withdrawals (Withdraws address (getD l (at + 4) 0))
-      unfolding readingOf InBounds
-      answers-withdraws b h =
-          answers (Withdraws address (getD l (at + 4) 0))
-          (sym (withdrawn (useOf withdrawals) (width ipv4) (fieldsAt l at address hop) (p .within) (p .clear) takes a b h)) p
+    pub answers-withdraws : (getD l (at + 5) 0 ≡ announceAction → ⊥) → takesWithdrawals (useOf withdrawals) ≡ true → getD l (at + 5) 0 ≡ withdrawAction → hop ≡ 0
+        → ReadsRecord l at withdrawals (Withdraws address (getD l (at + 4) 0))
+    unfolding readingOf InBounds
+    answers-withdraws a t b h = answers (Withdraws address (getD l (at + 4) 0)) (withdrawn k a t b h) (clean-prefix fetched k)
