@@ -21,6 +21,7 @@ use Rattle.records.specs.declared.Record.the-variants.{Announces, Withdraws, Fa
 use Rattle.records.specs.Promise.{readingOf, InBounds, ReadsRecord}
 use Rattle.lists.specs.declared.Found.the-variants.{Hop, Refused}
 use Rattle.lists.specs.Promise.{answerOf, LooksUpList}
+use Rattle.lists.specs.declared.Best.{Best}
 use Rattle.lists.specs.Best.{BestIn, Follows}
 use Rattle.lists.proofs.Follow.{best-longest}
 
@@ -37,13 +38,13 @@ abbrev readings : List ℕ → ℕ → ℕ → List Reading
 readings list at left = map (read lookup ipv4) (pieces (recordBytes ipv4) left (drop at list))
 
 -- WHERE THE PASS STANDS: so many records passed and left, the ledger of those passed, and the best match in it
-pub record Ahead (list : List ℕ) (x at level hop : ℕ) : Type 0 where
+pub record Ahead (list : List ℕ) (x at : ℕ) (best : Best) : Type 0 where
   pub place : ℕ
   pub left : ℕ
   pub passed : at ≡ recordBytes ipv4 * place
   pub rest : at + recordBytes ipv4 * left ≡ length list
   pub ledger : Ledger ℕ
-  pub best : BestIn ledger (bitsOf (width ipv4) x) level hop
+  pub longest-so-far : BestIn ledger (bitsOf (width ipv4) x) (best .level) (best .hop)
   pub whole : lookedUp ipv4 list x ≡ onwards x ledger place (scanAll (readings list at left))
 
 -- a scan without a fault names no place
@@ -68,7 +69,7 @@ bad-length list x d = record {
 }
 
 -- At first nothing is passed.
-pub at-first : (list : List ℕ) (x : ℕ) → length list % recordBytes ipv4 ≡ 0 → Ahead list x 0 0 noRoute
+pub at-first : (list : List ℕ) (x : ℕ) → length list % recordBytes ipv4 ≡ 0 → Ahead list x 0 (record { level = 0; hop = noRoute })
 unfolding lookedUp scanned
 at-first list x e =
     let left = length list / recordBytes ipv4 in
@@ -79,12 +80,12 @@ at-first list x e =
       passed = refl;
       rest = omega arith;
       ledger = nothing;
-      best = record { holds = refl; no-longer = λ k l m. refl };
+      longest-so-far = record { holds = refl; no-longer = λ k l m. refl };
       whole = ap (λ b. answered x (cond b s no-records)) (eq-eqb _ 0 e)
           ∙ ap (λ p. record { refusal = s .refusal; hop = answered x s .hop; place = p }) (quiet-place (readings list 0 left));
     }
 
-module _ {list : List ℕ} {x at level hop : ℕ} (a : Ahead list x at level hop) where
+module _ {list : List ℕ} {x at : ℕ} {best : Best} (a : Ahead list x at best) where
   -- a place before the list's end is that of a whole record
   pub fits-here : at < length list → at + recordBytes ipv4 ≤ length list
   fits-here l = omega (arith, a .rest)
@@ -108,32 +109,32 @@ module _ {list : List ℕ} {x at level hop : ℕ} (a : Ahead list x at level hop
     on r e = a .whole ∙ ap (λ rs. onwards x (a .ledger) (a .place) (scanAll rs)) here ∙ ap (λ q. onwards x (a .ledger) (a .place) (scanOn q behind)) (sym e)
 
     -- a faulty record is the first one, and its place is the answer
-    pub faulty-here : (n : ℕ) → ReadsRecord list at false (Faulty n) → LooksUpList list x (Refused n (at / recordBytes ipv4))
+    pub faulty-here : {n : ℕ} → ReadsRecord list at false (Faulty n) → LooksUpList list x (Refused n (at / recordBytes ipv4))
     unfolding readingOf
-    faulty-here n r = record {
+    faulty-here {n} r = record {
       answer = ap (λ p. record { refusal = some n; hop = 0; place = p }) (omega (arith, a .passed)) ∙ sym (on (faulty n) (r .reading));
     }
 
     -- so is a withdrawal
-    pub withdrawal-here : (address size : ℕ) → ReadsRecord list at false (Withdraws address size)
+    pub withdrawal-here : {address size : ℕ} → ReadsRecord list at false (Withdraws address size)
         → LooksUpList list x (Refused badAction (at / recordBytes ipv4))
     unfolding readingOf
-    withdrawal-here address size r = record {
+    withdrawal-here {address} {size} r = record {
       answer = ap (λ p. record { refusal = some badAction; hop = 0; place = p }) (omega (arith, a .passed))
           ∙ sym (on (means (withdraws (take size (bitsOf (width ipv4) address)))) (r .reading));
     }
 
     -- and past an announcement the pass goes on, with the best match that follows
-    pub announcement-here : (address size h level' hop' : ℕ) → ReadsRecord list at false (Announces address size h)
-        → Follows x address size h level hop level' hop' → Ahead list x (at + recordBytes ipv4) level' hop'
+    pub announcement-here : {address size h : ℕ} {after : Best} → ReadsRecord list at false (Announces address size h)
+        → Follows x address size h best after → Ahead list x (at + recordBytes ipv4) after
     unfolding readingOf
-    announcement-here address size h level' hop' r f = record {
+    announcement-here {address} {size} {h} r f = record {
       place = suc (a .place);
       left = a .left - 1;
       passed = omega (arith, a .passed);
       rest = omega (arith, a .rest);
       ledger = announce (a .ledger) p h;
-      best = f .follows (a .ledger) (a .best);
+      longest-so-far = f .follows (a .ledger) (a .longest-so-far);
       whole = on (means (announces p h)) (r .reading) ∙ ap (λ q. record { refusal = behind .refusal; hop = onwards x (announce (a .ledger) p h) 0 behind .hop; place = q }) place-is;
     }
       where
@@ -144,12 +145,12 @@ module _ {list : List ℕ} {x at level hop : ℕ} (a : Ahead list x at level hop
         place-is = elim (by-test (isHeld (behind .refusal))) [ inl e ↦ rw e (omega arith) | inr e ↦ rw e ]
 
   -- At the end, the best match is the answer.
-  pub at-last : length list ≤ at → LooksUpList list x (Hop hop)
+  pub at-last : length list ≤ at → LooksUpList list x (Hop (best .hop))
   unfolding hopOf
   at-last l =
       let r = a .rest in
       let none-left : a .left ≡ 0 = omega arith in
       record {
-        answer = ap (λ h. record { refusal = none; hop = h; place = 0 }) (best-longest (a .ledger) (bitsOf (width ipv4) x) level hop (a .best))
+        answer = ap (λ h. record { refusal = none; hop = h; place = 0 }) (best-longest (a .ledger) (bitsOf (width ipv4) x) (best .level) (best .hop) (a .longest-so-far))
             ∙ sym (a .whole ∙ ap (λ n. onwards x (a .ledger) (a .place) (scanAll (readings list at n))) none-left);
       }

@@ -20,7 +20,7 @@ struct Best {
 // The best match once the list's next route is announced: the longer one, and of two for the same prefix the later.
 fn better(best: Best, address: u32, prefix: u32, size: usize, hop: u32, masks: &[u32; LENGTHS]) -> Best
     requires { ⌜ CanCompare prefix size (now masks) ⌝ }
-    ensures { λ r. ⌜ Follows address prefix size hop (best .level) (best .hop) (r .level) (r .hop) ⌝ }
+    ensures { λ r. ⌜ Follows address prefix size hop best r ⌝ }
 {
     let level = size + 1;
     if level < best.level {

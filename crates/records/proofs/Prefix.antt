@@ -52,7 +52,7 @@ same-address w s t short long e =
     sym (prefix-of-address w s short) ∙ ap (λ k. take k (bitsOf w (addressOf w s))) long ∙ ap (λ x. take (length t) (bitsOf w x)) e
     ∙ prefix-of-address w t (omega arith)
 
-first-length : (w l x : ℕ) → l ≤ w → length (take l (bitsOf w x)) ≡ l
+pub first-length : (w l x : ℕ) → l ≤ w → length (take l (bitsOf w x)) ≡ l
 first-length w l x h = length-take-le l (bitsOf w x) (omega (arith, bits-length w x))
 
 -- A MASKED ADDRESS IS THE PREFIX'S exactly where the prefix begins the address

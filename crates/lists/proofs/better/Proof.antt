@@ -11,7 +11,7 @@ add-level c = search needs
 returns : tie.Need-returns
 returns c =
     let start = c .before .before in
-    follows-shorter _ _ _ _ _ _ (omega (arith, start .fits .address)) _ (start .pre) (c .if1 .taken)
+    follows-shorter (start .args .best) (omega (arith, start .fits .address)) (start .pre) (c .if1 .taken)
 
 mul-if2 : tie.Need-mul-if2
 mul-if2 c = search needs
@@ -22,12 +22,12 @@ element-copy-out-if2 c = search needs
 returns-2 : tie.Need-returns-2
 returns-2 c =
     let start = c .before .before .before .before in
-    follows-elsewhere _ _ _ _ _ _ (omega (arith, start .fits .address)) _ (start .pre) (c .if2 .taken)
+    follows-elsewhere (start .args .best) (omega (arith, start .fits .address)) (start .pre) (c .if2 .taken)
 
 returns-3 : tie.Need-returns-3
 returns-3 c =
     let start = c .before .before .before .before in
-    follows-taken _ _ _ _ _ _ (omega (arith, start .fits .address)) _ (start .pre) (c .before .before .if1 .left) (c .if2 .left)
+    follows-taken (start .args .best) (omega (arith, start .fits .address)) (start .pre) (c .before .before .if1 .left) (c .if2 .left)
 
 pub better-spec : {M : Type 1} → statement M
 better-spec = tie.close (tie.spec add-level returns mul-if2 element-copy-out-if2 returns-2 returns-3)

@@ -14,7 +14,7 @@ use Rattle.lists.proofs.lookup_list.Statement.{statement}
 use Rattle.lists.proofs.lookup_list.Tie as tie
 
 abbrev Inv-loop : tie.InvT-loop
-Inv-loop list address masks best₀ at₀ best at = Ahead list address at (best .level) (best .hop)
+Inv-loop list address masks best₀ at₀ best at = Ahead list address at best
 
 abbrev μ-loop : tie.MeasureT-loop
 μ-loop list address masks best₀ at₀ best at = length list - at
@@ -59,7 +59,7 @@ enum-told c = search needs
 returns-2 : tie.Need-returns-2 Inv-loop μ-loop
 returns-2 c =
     let turn = c .before .before .before .before in
-    withdrawal-here (turn .before .loop .inv) (turn .loop-test .taken) _ _
+    withdrawal-here (turn .before .loop .inv) (turn .loop-test .taken)
     (subst (ReadsRecord _ _ false) (c .enum-told .given .1) (c .before .before .read-record .ensures))
 
 enum-known-next-2 : tie.Need-enum-known-next-2 Inv-loop μ-loop
@@ -68,7 +68,7 @@ enum-known-next-2 c = search needs
 returns-3 : tie.Need-returns-3 Inv-loop μ-loop
 returns-3 c =
     let turn = c .before .before .before .before .before in
-    faulty-here (turn .before .loop .inv) (turn .loop-test .taken) _
+    faulty-here (turn .before .loop .inv) (turn .loop-test .taken)
     (subst (ReadsRecord _ _ false) (c .before .next2 .given .1) (c .before .before .before .read-record .ensures))
 
 loop-less : tie.Need-loop-less Inv-loop μ-loop
@@ -78,7 +78,7 @@ loop-again : tie.Need-loop-again Inv-loop μ-loop
 loop-again c =
     let arm = c .before .before .before in
     let turn = arm .before .before .before .before in
-    announcement-here (turn .before .loop .inv) (turn .loop-test .taken) _ _ _ _ _ (announced arm) (c .better .ensures)
+    announcement-here (turn .before .loop .inv) (turn .loop-test .taken) (announced arm) (c .better .ensures)
 
 returns-4 : tie.Need-returns-4 Inv-loop μ-loop
 returns-4 c = at-last (c .before .loop .inv) (c .loop-test .left)
