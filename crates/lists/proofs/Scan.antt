@@ -1,11 +1,11 @@
 -- One pass over the list: at each record, scanning the rest from the ledger of the routes passed gives the whole answer, so what
 -- is found there, a fault or the list's end, is the answer.
 use mathlib.Core.Path.{_≡_, refl, sym, ap, _∙_}
-use mathlib.Core.Bool.{Bool, true, false, cond}
+use mathlib.Core.Bool.{false, cond}
 use mathlib.Core.Logic.{inl, inr}
 use mathlib.Core.Option.{none, some}
 use mathlib.Core.List.{List, [], _∷_, map}
-use Prim.Native.Nat.{ℕ, zero, suc, _+_, _-_, _*_, _/_, _%_, _≤_, _<_}
+use Prim.Native.Nat.{ℕ, suc, _+_, _-_, _*_, _/_, _%_, _≤_, _<_}
 use native.Mathlib.Omega.{arith}
 use lib.ListN.{length, take, drop}
 use lib.Seq.{drop-drop}
@@ -14,13 +14,12 @@ use Rattle.theory.specs.Bits.{Bits, bitsOf}
 use Rattle.theory.specs.Ledger.{Ledger, isHeld, nothing, announce, loadOnto, load}
 use Rattle.theory.proofs.Hops.{by-test}
 use Rattle.rules.specs.Numbers.{ipv4, width, recordBytes, noRoute, badListLength, badAction}
-use Rattle.rules.specs.Records.{announces, withdraws, lookup, Reading, means, faulty, read, pieces, recordsOf, wholeRecords}
+use Rattle.rules.specs.Records.{announces, withdraws, lookup, Reading, means, faulty, read, pieces, recordsOf}
 use Rattle.rules.specs.Lookup.{hopOf, Scanned, scanOn, scanAll, scanned, Answer, lookedUp}
-use Rattle.records.specs.declared.Record.{Record}
 use Rattle.records.specs.declared.Record.the-variants.{Announces, Withdraws, Faulty}
-use Rattle.records.specs.Promise.{readingOf, InBounds, ReadsRecord}
+use Rattle.records.specs.Promise.{readingOf, ReadsRecord}
 use Rattle.lists.specs.declared.Found.the-variants.{Hop, Refused}
-use Rattle.lists.specs.Promise.{answerOf, LooksUpList}
+use Rattle.lists.specs.Promise.{LooksUpList}
 use Rattle.lists.specs.declared.Best.{Best}
 use Rattle.lists.specs.Best.{BestIn, Follows}
 use Rattle.lists.proofs.Follow.{best-longest}
@@ -140,6 +139,7 @@ module _ {list : List ℕ} {x at : ℕ} {best : Best} (a : Ahead list x at best)
       where
         p : Bits
         p = take size (bitsOf (width ipv4) address)
+
         place-is : cond (isHeld (behind .refusal)) (a .place + cond (isHeld (behind .refusal)) (suc (behind .place)) 0) 0
             ≡ cond (isHeld (behind .refusal)) (suc (a .place) + behind .place) 0
         place-is = elim (by-test (isHeld (behind .refusal))) [ inl e ↦ rw e (omega arith) | inr e ↦ rw e ]

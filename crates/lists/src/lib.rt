@@ -1,9 +1,12 @@
 // Lookup in a record list, in one pass and constant work for each record.
 ghost use Rattle.lists.specs.Promise.{LooksUpList};
 ghost use Rattle.lists.specs.Best.{CanCompare, Follows};
-
 use records::Record;
-use records::numbers::{BAD_ACTION, BAD_LIST_LENGTH, LENGTHS, NO_ROUTE, RECORD};
+use records::numbers::BAD_ACTION;
+use records::numbers::BAD_LIST_LENGTH;
+use records::numbers::LENGTHS;
+use records::numbers::NO_ROUTE;
+use records::numbers::RECORD;
 
 // The hop of an address, 0 for no route; or the number of a refusal, and the place of the first bad record.
 pub enum Found {
@@ -18,7 +21,14 @@ struct Best {
 }
 
 // The best match once the list's next route is announced: the longer one, and of two for the same prefix the later.
-fn better(best: Best, address: u32, prefix: u32, size: usize, hop: u32, masks: &[u32; LENGTHS]) -> Best
+fn better(
+    best: Best,
+    address: u32,
+    prefix: u32,
+    size: usize,
+    hop: u32,
+    masks: &[u32; LENGTHS],
+) -> Best
     requires { ⌜ CanCompare prefix size (now masks) ⌝ }
     ensures { λ r. ⌜ Follows address prefix size hop best r ⌝ }
 {
@@ -37,23 +47,40 @@ pub fn lookup_list(list: &[u8], address: u32) -> Found
     ensures { λ r. ⌜ LooksUpList (now (list .entry)) address r ⌝ }
 {
     if list.len() % RECORD != 0 {
-        return Found::Refused { number: BAD_LIST_LENGTH, place: 0 };
+        return Found::Refused {
+            number: BAD_LIST_LENGTH,
+            place: 0,
+        };
     }
     let masks = records::mask_table();
-    let mut best = Best { level: 0, hop: NO_ROUTE };
+    let mut best = Best {
+        level: 0,
+        hop: NO_ROUTE,
+    };
     let mut at = 0;
     while at < list.len() {
         let end = at + RECORD;
+        let place = at / RECORD;
         let next = records::read_record(list, at, false, &masks);
         match next {
-            Record::Announces { address: prefix, size, hop } => {
+            Record::Announces {
+                address: prefix,
+                size,
+                hop,
+            } => {
                 best = better(best, address, prefix, size, hop, &masks);
             }
-            Record::Withdraws { address: _, size: _ } => {
-                return Found::Refused { number: BAD_ACTION, place: at / RECORD };
+            Record::Withdraws {
+                address: _,
+                size: _,
+            } => {
+                return Found::Refused {
+                    number: BAD_ACTION,
+                    place,
+                };
             }
             Record::Faulty { number } => {
-                return Found::Refused { number, place: at / RECORD };
+                return Found::Refused { number, place };
             }
         }
         at = end;

@@ -1,6 +1,6 @@
 -- Reading one record: its fields are those that stand in its 8 bytes, and the tests, tried in the order of the rules, say which
 -- rule is the first that it breaks, or that it breaks none.
-use mathlib.Core.Path.{_≡_, refl, sym, ap, ap₂, _∙_}
+use mathlib.Core.Path.{_≡_, sym, ap, ap₂, _∙_}
 use mathlib.Core.Bool.{Bool, true, false, cond, not, _||_, _&&_}
 use mathlib.Core.List.{List, _∷_}
 use mathlib.Core.Option.{none, some}
@@ -8,17 +8,16 @@ use Prim.Native.Nat.{ℕ, suc, _+_, _*_, _^_, _≤_, _<_}
 use native.Mathlib.Omega.{arith}
 use native.Mathlib.Numerals.{add-one}
 use native.Mathlib.Nat.{le-refl}
-use lib.ListN.{length, take, drop, getD, length-take, length-drop}
+use lib.ListN.{length, take, drop, getD, length-drop}
 use lib.Seq.{drop-cons, take-take, take-add, drop-at, drop-drop, getD-take, getD-drop, length-take-le}
-use lib.Dec.{eqb, ltb}
-use lib.Bits.{bitAnd}
+use lib.Dec.{eqb}
 use borrow.Author.Tests.{lt-ltb, le-ltb, eq-eqb, ne-eqb}
 use Rattle.theory.specs.Bits.{bitsOf}
 use Rattle.rules.specs.Numbers.{ipv4, width, recordBytes, announceAction, withdrawAction, lowestHop, highestHop, badPrefixLength, strayBit, badAction, badHop}
-use Rattle.rules.specs.Records.{number, announces, withdraws, Fields, fieldsOf, Use, update, lookup, takesWithdrawals, strayBits, badHopFor, fieldRules, firstFault, Reading, means, faulty, meaning, faultOr, read}
+use Rattle.rules.specs.Records.{number, announces, withdraws, Fields, fieldsOf, Use, takesWithdrawals, strayBits, badHopFor, fieldRules, firstFault, Reading, means, faulty, meaning, faultOr, read}
 use Rattle.records.specs.declared.Record.{Record}
 use Rattle.records.specs.declared.Record.the-variants.{Announces, Withdraws, Faulty}
-use Rattle.records.specs.Promise.{readingOf, useOf, IsPrefix, IsRoute, IsFault, InBounds, ReadsRecord}
+use Rattle.records.specs.Promise.{readingOf, useOf, IsPrefix, IsFault, InBounds, ReadsRecord}
 
 -- Numbers in a list's bytes.
 drop-two : (l : List ℕ) (at : ℕ) → at + 2 ≤ length l → drop at l ≡ getD l at 0 ∷ getD l (at + 1) 0 ∷ drop (at + 2) l

@@ -8,25 +8,27 @@ ghost use Rattle.records.specs.Promise.{CanRead, ReadsRecord};
 
 pub mod numbers; // numbers.rt: the numbers of document 01, and the masks
 
-use numbers::{
-    ACTION_AT, ANNOUNCE, BAD_ACTION, BAD_HOP, BAD_PREFIX_LENGTH, HIGHEST_HOP, HOP_AT, LENGTHS, LOWEST_HOP, MASKS, NO_HOP, SIZE_AT, STRAY_BIT,
-    WIDTH, WITHDRAW,
-};
+use numbers::ACTION_AT;
+use numbers::ANNOUNCE;
+use numbers::BAD_ACTION;
+use numbers::BAD_HOP;
+use numbers::BAD_PREFIX_LENGTH;
+use numbers::HIGHEST_HOP;
+use numbers::HOP_AT;
+use numbers::LENGTHS;
+use numbers::LOWEST_HOP;
+use numbers::MASKS;
+use numbers::NO_HOP;
+use numbers::SIZE_AT;
+use numbers::STRAY_BIT;
+use numbers::WIDTH;
+use numbers::WITHDRAW;
 
 // What a record says: a route, the prefix of a withdrawal, or the number of its first fault.
 pub enum Record {
-    Announces {
-        address: u32,
-        size: usize,
-        hop: u32,
-    },
-    Withdraws {
-        address: u32,
-        size: usize,
-    },
-    Faulty {
-        number: u32,
-    },
+    Announces { address: u32, size: usize, hop: u32 },
+    Withdraws { address: u32, size: usize },
+    Faulty { number: u32 },
 }
 
 // The masks. A caller takes them once for a whole list, and lends them for each record.
@@ -68,7 +70,9 @@ pub fn read_record(list: &[u8], at: usize, withdrawals: bool, masks: &[u32; LENG
     let action = list[at + ACTION_AT];
     let hop = two_bytes(list, at + HOP_AT);
     if WIDTH < size {
-        return Record::Faulty { number: BAD_PREFIX_LENGTH };
+        return Record::Faulty {
+            number: BAD_PREFIX_LENGTH,
+        };
     }
     if address & masks[size] != address {
         return Record::Faulty { number: STRAY_BIT };

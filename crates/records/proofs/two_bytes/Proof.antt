@@ -6,43 +6,32 @@ use borrow.Author.Needs.{needs}
 use Rattle.records.proofs.Reading.{two-number}
 use Rattle.records.proofs.two_bytes.Statement.{statement}
 use Rattle.records.proofs.two_bytes.Tie as tie
-use Rattle.records.proofs.two_bytes.Reads as reads
-use Rattle.records.proofs.two_bytes.Lts as lts
-use Rattle.records.proofs.wide.Reads as wide-reads
 
--- src/lib.rt:50:10
 shared-slice-read-wide : tie.Need-shared-slice-read-wide
 shared-slice-read-wide c = search needs
 
--- src/lib.rt:50:5
 wide-requires : tie.Need-wide-requires
 wide-requires c κs = search needs
 
--- src/lib.rt:50:5
 mul-result : tie.Need-mul-result
 mul-result c = search needs
 
--- src/lib.rt:50:38
 add-wide : tie.Need-add-wide
 add-wide c = search needs
 
--- src/lib.rt:50:33
 shared-slice-read-wide-2 : tie.Need-shared-slice-read-wide-2
 shared-slice-read-wide-2 c = search needs
 
--- src/lib.rt:50:28
 wide-requires-2 : tie.Need-wide-requires-2
 wide-requires-2 c κs = search needs
 
--- src/lib.rt:50:5
 add-result : tie.Need-add-result
 add-result c = search needs
 
--- src/lib.rt:46:1
 returns : tie.Need-returns
 returns c =
-    let a = c .before .before .before .before .before .args in
-    omega (arith, two-number (now (a .list)) (a .at) (c .before .before .before .before .before .pre))
+    let start = c .before .before .before .before .before in
+    omega (arith, two-number (now (start .args .list)) (start .args .at) (start .pre))
 
 pub two-bytes-spec : {M : Type 1} → statement M
 two-bytes-spec =
