@@ -54,20 +54,29 @@ same-address w s t short long e =
 pub first-length : (w l x : ℕ) → l ≤ w → length (take l (bitsOf w x)) ≡ l
 first-length w l x h = length-take-le l (bitsOf w x) (omega (arith, bits-length w x))
 
+-- a prefix's address is the address of its first bits, so the bits fix the prefix
+prefix-address : {address l : ℕ} → IsPrefix address l → address ≡ addressOf (width ipv4) (take l (bitsOf (width ipv4) address))
+prefix-address {address} {l} p =
+    omega (arith, first-bits (width ipv4) l address (p .fits) (p .within), clear-tail address l (p .within) (p .clear))
+
+pub one-prefix : {a b l m : ℕ} → IsPrefix a l → IsPrefix b m → take l (bitsOf (width ipv4) a) ≡ take m (bitsOf (width ipv4) b)
+    → (a ≡ b) × (l ≡ m)
+one-prefix {a} {b} {l} {m} p q e = (
+  prefix-address p ∙ ap (addressOf (width ipv4)) e ∙ sym (prefix-address q),
+  sym (first-length (width ipv4) l a (p .within)) ∙ ap length e ∙ first-length (width ipv4) m b (q .within),
+)
+
 -- A MASKED ADDRESS IS THE PREFIX'S exactly where the prefix begins the address
 module _ (x address l : ℕ) (fits : x < 2 ^ width ipv4) (p : IsPrefix address l) (masks : List ℕ) (table : masks ≡ maskTable) where
   masked-is : bitAnd x (getD masks l 0) ≡ addressOf (width ipv4) (take l (bitsOf (width ipv4) x))
   masked-is = ap (λ t. bitAnd x (getD t l 0)) table ∙ masked x l fits (p .within) ∙ first-bits (width ipv4) l x fits (p .within)
-
-  address-is : address ≡ addressOf (width ipv4) (take l (bitsOf (width ipv4) address))
-  address-is = omega (arith, first-bits (width ipv4) l address (p .fits) (p .within), clear-tail address l (p .within) (p .clear))
 
   pub begins : bitAnd x (getD masks l 0) ≡ address → take l (bitsOf (width ipv4) address) ≡ take l (bitsOf (width ipv4) x)
   begins e =
       same-address (width ipv4) (take l (bitsOf (width ipv4) address)) (take l (bitsOf (width ipv4) x))
       (omega (arith, first-length (width ipv4) l address (p .within), p .within))
       (first-length (width ipv4) l address (p .within) ∙ sym (first-length (width ipv4) l x (p .within)))
-      (sym address-is ∙ sym e ∙ masked-is)
+      (sym (prefix-address p) ∙ sym e ∙ masked-is)
 
   pub begins-not : (bitAnd x (getD masks l 0) ≡ address → ⊥) → take l (bitsOf (width ipv4) address) ≡ take l (bitsOf (width ipv4) x) → ⊥
-  begins-not d e = d (masked-is ∙ sym (ap (addressOf (width ipv4)) e) ∙ sym address-is)
+  begins-not d e = d (masked-is ∙ sym (ap (addressOf (width ipv4)) e) ∙ sym (prefix-address p))
