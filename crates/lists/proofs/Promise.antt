@@ -35,5 +35,5 @@ unfolding lookedUp scanned hopOf
 empty-list address = refl
 
 pub always-one-breaks : (f : List ℕ → ℕ → Found) → ((list : List ℕ) (address : ℕ) → answerOf (f list address) .hop ≡ 1)
-    → ((list : List ℕ) (address : ℕ) → LooksUpList list address (f list address)) → ⊥
-always-one-breaks f one meets = omega (arith, one [] 0, ap (λ a. a .hop) (meets [] 0 .answer), empty-list 0)
+    → (address : ℕ) → LooksUpList [] address (f [] address) → ⊥
+always-one-breaks f one address meets = omega (arith, one [] address, ap (λ a. a .hop) (meets .answer), empty-list address)
