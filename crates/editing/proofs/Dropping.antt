@@ -20,7 +20,6 @@ use Rattle.editing.proofs.Hanging.{busy-kept, marked-before}
 module _ (w : ℕ) (m m' : Memory) (p : ℕ) (b : Bool) (k : ℕ) (s0 : Bits) (whole : Whole m) (dropped : Dropped m m' p b k)
     (above : find (m .tree) s0 ≡ p) (there : find (m .tree) (b ∷ s0) ≡ k) (slot-k : k < slots (m .tree)) (short : length (b ∷ s0) ≤ w)
     (unheld : bare m (w - length (b ∷ s0)) k ≡ true) where
-
   same-slots : slots (m' .tree) ≡ slots (m .tree)
   same-slots = dropped .kept .same-slots
 
@@ -59,19 +58,19 @@ module _ (w : ℕ) (m m' : Memory) (p : ℕ) (b : Bool) (k : ℕ) (s0 : Bits) (w
     positive = was-counted .positive;
     slot = slot-k;
     one-step = λ s c l not-k.
-      let elsewhere : (find (m .tree) s ≡ p → c ≡ b → ⊥)
-          → ((child (m' .tree) c (find (m .tree) s) ≡ child (m .tree) c (find (m .tree) s)) × (child (m .tree) c (find (m .tree) s) ≡ k → ⊥))
-          ⊎ ((⊥ × (child (m' .tree) c (find (m .tree) s) ≡ k))
-          ⊎ ((child (m .tree) c (find (m .tree) s) ≡ k) × (child (m' .tree) c (find (m .tree) s) ≡ slots (m .tree)))) =
-          λ apart. inl (child-elsewhere (find (m .tree) s) c not-k apart, only-parent (find (m .tree) s) c apart) in
-      elim (same-or (find (m .tree) s) p) [
-        | inl at-p ↦
-            elim (side-or c b) [
-              | inl at-b ↦ inr (inr (ap₂ (child (m .tree)) at-b at-p ∙ was-child, ap₂ (child (m' .tree)) at-b at-p ∙ gone))
-              | inr not-b ↦ elsewhere (λ x y. not-b y)
-            ]
-        | inr not-p ↦ elsewhere (λ x y. not-p x)
-      ];
+        let elsewhere : (find (m .tree) s ≡ p → c ≡ b → ⊥)
+        → ((child (m' .tree) c (find (m .tree) s) ≡ child (m .tree) c (find (m .tree) s)) × (child (m .tree) c (find (m .tree) s) ≡ k → ⊥))
+        ⊎ ((⊥ × (child (m' .tree) c (find (m .tree) s) ≡ k))
+        ⊎ ((child (m .tree) c (find (m .tree) s) ≡ k) × (child (m' .tree) c (find (m .tree) s) ≡ slots (m .tree)))) =
+        λ apart. inl (child-elsewhere (find (m .tree) s) c not-k apart, only-parent (find (m .tree) s) c apart) in
+        elim (same-or (find (m .tree) s) p) [
+          | inl at-p ↦
+              elim (side-or c b) [
+                | inl at-b ↦ inr (inr (ap₂ (child (m .tree)) at-b at-p ∙ was-child, ap₂ (child (m' .tree)) at-b at-p ∙ gone))
+                | inr not-b ↦ elsewhere (λ x y. not-b y)
+              ]
+          | inr not-p ↦ elsewhere (λ x y. not-p x)
+        ];
     leaf = λ s c l e. bare-leaf m (w - length (b ∷ s0)) k unheld (omega (arith, ap length (its-string s e))) c;
     new-none = λ s e. absurd e;
     new-leaf = λ s e c. absurd e;
@@ -123,10 +122,10 @@ module _ (w : ℕ) (m m' : Memory) (p : ℕ) (b : Bool) (k : ℕ) (s0 : Bits) (w
           | inl at-k ↦ absurd (not-used used at-k)
           | inr not-k ↦
               let elsewhere : (j ≡ p → c ≡ b → ⊥) → (link (m' .tree) c j ≡ 0) ⊎ (child (m' .tree) c j ≡ link (m' .tree) c j) =
-                  λ apart.
-                  let same-link = dropped .other-links j c not-k apart in
-                  ⊎-map (λ e. same-link ∙ e) (λ e. child-elsewhere j c not-k apart ∙ e ∙ sym same-link)
-                  (tidy .neat j c (marked-before (m .tree) (m' .tree) k (dropped .other-marks) j not-k used)) in
+              λ apart.
+              let same-link = dropped .other-links j c not-k apart in
+              ⊎-map (λ e. same-link ∙ e) (λ e. child-elsewhere j c not-k apart ∙ e ∙ sym same-link)
+              (tidy .neat j c (marked-before (m .tree) (m' .tree) k (dropped .other-marks) j not-k used)) in
               elim (same-or j p) [
                 | inl at-p ↦
                     elim (side-or c b) [
@@ -146,10 +145,10 @@ module _ (w : ℕ) (m m' : Memory) (p : ℕ) (b : Bool) (k : ℕ) (s0 : Bits) (w
       each-slot = dropped-slot;
       neat = dropped-neat;
       plain = λ j e.
-        elim (same-or j k) [
-          | inl at-k ↦ ap (λ x. getD (m' .hop) x 0) at-k ∙ dropped .no-hop
-          | inr not-k ↦ dropped .other-hops j not-k ∙ tidy .plain j (ap readHop (sym (dropped .other-hops j not-k)) ∙ e)
-        ];
+          elim (same-or j k) [
+            | inl at-k ↦ ap (λ x. getD (m' .hop) x 0) at-k ∙ dropped .no-hop
+            | inr not-k ↦ dropped .other-hops j not-k ∙ tidy .plain j (ap readHop (sym (dropped .other-hops j not-k)) ∙ e)
+          ];
     }
 
 -- a tip that is not bare, or that is slot 0, is no exception
@@ -157,10 +156,10 @@ pub tip-done : (w : ℕ) (m : Memory) (tip : ℕ) (s : Bits) → find (m .tree) 
     → TidyBut w m tip → Tidy w m
 tip-done w m tip s there short busy tidy = record {
   each-slot = λ k pos l other.
-    elim (same-or k tip) [
-      | inl e ↦ inr (subst (Used w m) (sym e) record { string = s; short = short; there = there; busy = busy })
-      | inr e ↦ tidy .each-slot k pos l e
-    ];
+      elim (same-or k tip) [
+        | inl e ↦ inr (subst (Used w m) (sym e) record { string = s; short = short; there = there; busy = busy })
+        | inr e ↦ tidy .each-slot k pos l e
+      ];
   neat = tidy .neat;
   plain = tidy .plain;
 }

@@ -37,7 +37,6 @@ used-string w m k (suc left) e h =
 module _ (w : ℕ) (m : Memory) (whole : Whole m) (s0 : Bits) (b : Bool) (r : Bits) (h : ℕ) (tip : ℕ) (there : find (m .tree) s0 ≡ tip)
     (slot-tip : tip < slots (m .tree)) (short : length (r ++ b ∷ s0) ≤ w) (no-child : child (m .tree) b tip ≡ slots (m .tree))
     (full : (j : ℕ) → 0 < j → j < slots (m .tree) → (j ≡ tip → ⊥) → idle w m j ≡ false) where
-
   abbrev after : Ledger ℕ
   after = announce (ledgerOf w m) (reverse (r ++ b ∷ s0)) h
 
@@ -54,7 +53,7 @@ module _ (w : ℕ) (m : Memory) (whole : Whole m) (s0 : Bits) (b : Bool) (r : Bi
   still-held : (s : Bits) → length s ≤ w → isHeld (hopAt m (find (m .tree) s)) ≡ true → isHeld (after (reverse s)) ≡ true
   still-held s l e =
       let was : isHeld (ledgerOf w m (reverse s)) ≡ true =
-          ap isHeld (ledger-at w m (reverse s) (omega (arith, length-reverse s)) ∙ ap (λ x. hopAt m (find (m .tree) x)) (reverse-reverse s)) ∙ e in
+      ap isHeld (ledger-at w m (reverse s) (omega (arith, length-reverse s)) ∙ ap (λ x. hopAt m (find (m .tree) x)) (reverse-reverse s)) ∙ e in
       elim (by-test (same (reverse (r ++ b ∷ s0)) (reverse s))) [ inl q ↦ rw q | inr q ↦ rw q was ]
 
   busy : (c : Bool) (s : Bits) → length (c ∷ s) ≤ w → find (m .tree) (c ∷ s) < slots (m .tree)
@@ -101,13 +100,13 @@ module _ (w : ℕ) (m : Memory) (whole : Whole m) (s0 : Bits) (b : Bool) (r : Bi
       (λ j l. omega (arith, length-reverse (string j), ap length (its-trail j l), stringed j l .short))
       (λ j l. needed (string j) (omega (arith, ap length (its-trail j l), stringed j l .short)) (omega (arith, string-there j l)))
       (λ i j li lj e.
-        let same-string : string i ≡ string j = sym (reverse-reverse (string i)) ∙ ap reverse e ∙ reverse-reverse (string j) in
-        sym (string-there i li) ∙ ap (find (m .tree)) same-string ∙ string-there j lj)
+      let same-string : string i ≡ string j = sym (reverse-reverse (string i)) ∙ ap reverse e ∙ reverse-reverse (string j) in
+      sym (string-there i li) ∙ ap (find (m .tree)) same-string ∙ string-there j lj)
       (reverse (b ∷ s0)) (omega (arith, length-reverse (b ∷ s0), lengths))
       (or-right (isEmpty (reverse (b ∷ s0))) _ (begins-announced (b ∷ s0) r refl))
       (λ j l e.
-        let same-string : string j ≡ b ∷ s0 = sym (reverse-reverse (string j)) ∙ ap reverse e ∙ reverse-reverse (b ∷ s0) in
-        omega (arith, string-there j l, ap (find (m .tree)) same-string ∙ ap (child (m .tree) b) there ∙ no-child))
+      let same-string : string j ≡ b ∷ s0 = sym (reverse-reverse (string j)) ∙ ap reverse e ∙ reverse-reverse (b ∷ s0) in
+      omega (arith, string-there j l, ap (find (m .tree)) same-string ∙ ap (child (m .tree) b) there ∙ no-child))
 
 -- a path's first bits, and those behind them
 pub front-more : (f : ℕ → Bool) (d e : ℕ) → d < e → (r : Bits) × (front f e ≡ r ++ f d ∷ front f d)

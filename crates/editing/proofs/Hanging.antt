@@ -57,7 +57,6 @@ marked-before t t' k other-marks j not-k (inr l) =
 module _ (w : ℕ) (m m' : Memory) (p : ℕ) (b : Bool) (k : ℕ) (s0 : Bits) (whole : Whole m) (hung : Hung m m' p b k)
     (there : find (m .tree) s0 ≡ p) (slot-p : p < slots (m .tree)) (short : length s0 < w) (no-child : child (m .tree) b p ≡ slots (m .tree))
     (positive : 0 < k) (slot-k : k < slots (m .tree)) (other : k ≡ p → ⊥) (unused : idle w m k ≡ true) where
-
   same-slots : slots (m' .tree) ≡ slots (m .tree)
   same-slots = hung .kept .same-slots
 
@@ -89,28 +88,32 @@ module _ (w : ℕ) (m m' : Memory) (p : ℕ) (b : Bool) (k : ℕ) (s0 : Bits) (w
     positive = positive;
     slot = slot-k;
     one-step = λ s c l not-k.
-      let ordinary : (find (m .tree) s ≡ p → c ≡ b → ⊥)
-          → ((child (m' .tree) c (find (m .tree) s) ≡ child (m .tree) c (find (m .tree) s)) × (child (m .tree) c (find (m .tree) s) ≡ k → ⊥))
-          ⊎ (((c ∷ s ≡ b ∷ s0) × (child (m' .tree) c (find (m .tree) s) ≡ k))
-          ⊎ ((child (m .tree) c (find (m .tree) s) ≡ k) × (child (m' .tree) c (find (m .tree) s) ≡ slots (m .tree)))) =
-          λ apart.
-          elim (same-or (child (m .tree) c (find (m .tree) s)) k) [
-            | inl e ↦
-                inr (inr (e,
-                  child-gone (m .tree) (m' .tree) k same-slots (hung .other-marks) c (find (m .tree) s)
-                  (hung .other-links (find (m .tree) s) c not-k apart) (not-there (find (m .tree) s) c apart) e slot-k))
-            | inr e ↦ inl (child-elsewhere (find (m .tree) s) c not-k apart e, e)
-          ] in
-      elim (same-or (find (m .tree) s) p) [
-        | inl at-p ↦
-            elim (side-or c b) [
-              | inl at-b ↦
-                  inr (inl (ap₂ (λ d r. d ∷ r) at-b (one-string (m .tree) (whole .shaped) s s0 (at-p ∙ sym there) (omega arith)),
-                    ap₂ (child (m' .tree)) at-b at-p ∙ new-child))
-              | inr not-b ↦ ordinary (λ x y. not-b y)
-            ]
-        | inr not-p ↦ ordinary (λ x y. not-p x)
-      ];
+        let ordinary : (find (m .tree) s ≡ p → c ≡ b → ⊥)
+        → ((child (m' .tree) c (find (m .tree) s) ≡ child (m .tree) c (find (m .tree) s)) × (child (m .tree) c (find (m .tree) s) ≡ k → ⊥))
+        ⊎ (((c ∷ s ≡ b ∷ s0) × (child (m' .tree) c (find (m .tree) s) ≡ k))
+        ⊎ ((child (m .tree) c (find (m .tree) s) ≡ k) × (child (m' .tree) c (find (m .tree) s) ≡ slots (m .tree)))) =
+        λ apart.
+        elim (same-or (child (m .tree) c (find (m .tree) s)) k) [
+          | inl e ↦
+              inr (inr (
+                e,
+                child-gone (m .tree) (m' .tree) k same-slots (hung .other-marks) c (find (m .tree) s)
+                    (hung .other-links (find (m .tree) s) c not-k apart) (not-there (find (m .tree) s) c apart) e slot-k,
+              ))
+          | inr e ↦ inl (child-elsewhere (find (m .tree) s) c not-k apart e, e)
+        ] in
+        elim (same-or (find (m .tree) s) p) [
+          | inl at-p ↦
+              elim (side-or c b) [
+                | inl at-b ↦
+                    inr (inl (
+                      ap₂ (λ d r. d ∷ r) at-b (one-string (m .tree) (whole .shaped) s s0 (at-p ∙ sym there) (omega arith)),
+                      ap₂ (child (m' .tree)) at-b at-p ∙ new-child,
+                    ))
+                | inr not-b ↦ ordinary (λ x y. not-b y)
+              ]
+          | inr not-p ↦ ordinary (λ x y. not-p x)
+        ];
     leaf = λ s c l e. bare-leaf m (w - length s) k (idle-bare w m k (whole .shaped) slot-k unused s (omega arith) e) (omega arith) c;
     new-none = λ s e. ap (find (m .tree)) e ∙ ap (child (m .tree) b) there ∙ no-child;
     new-leaf = λ s e c. no-new-child c;
@@ -182,11 +185,11 @@ module _ (w : ℕ) (m m' : Memory) (p : ℕ) (b : Bool) (k : ℕ) (s0 : Bits) (w
           | inl at-k ↦ inl (ap (link (m' .tree) c) at-k ∙ hung .no-links c)
           | inr not-k ↦
               let ordinary : (j ≡ p → c ≡ b → ⊥) → (link (m' .tree) c j ≡ 0) ⊎ (child (m' .tree) c j ≡ link (m' .tree) c j) =
-                  λ apart.
-                  let same-link = hung .other-links j c not-k apart in
-                  ⊎-map (λ e. same-link ∙ e)
-                  (λ e. child-elsewhere j c not-k apart (no-link-to j c) ∙ e ∙ sym same-link)
-                  (tidy .neat j c (marked-before (m .tree) (m' .tree) k (hung .other-marks) j not-k used)) in
+              λ apart.
+              let same-link = hung .other-links j c not-k apart in
+              ⊎-map (λ e. same-link ∙ e)
+              (λ e. child-elsewhere j c not-k apart (no-link-to j c) ∙ e ∙ sym same-link)
+              (tidy .neat j c (marked-before (m .tree) (m' .tree) k (hung .other-marks) j not-k used)) in
               elim (same-or j p) [
                 | inl at-p ↦
                     elim (side-or c b) [
@@ -202,8 +205,8 @@ module _ (w : ℕ) (m m' : Memory) (p : ℕ) (b : Bool) (k : ℕ) (s0 : Bits) (w
       each-slot = hung-slot;
       neat = hung-neat;
       plain = λ j e.
-        elim (same-or j k) [
-          | inl at-k ↦ ap (λ x. getD (m' .hop) x 0) at-k ∙ hung .no-hop
-          | inr not-k ↦ hung .other-hops j not-k ∙ tidy .plain j (ap readHop (sym (hung .other-hops j not-k)) ∙ e)
-        ];
+          elim (same-or j k) [
+            | inl at-k ↦ ap (λ x. getD (m' .hop) x 0) at-k ∙ hung .no-hop
+            | inr not-k ↦ hung .other-hops j not-k ∙ tidy .plain j (ap readHop (sym (hung .other-hops j not-k)) ∙ e)
+          ];
     }

@@ -28,7 +28,6 @@ side-or false false = inl refl
 module _ (t t' : Tree) (k : ℕ) (same-slots : slots t' ≡ slots t)
     (other-marks : (y : ℕ) → 0 < y → (y ≡ k → ⊥) → getD (t' .up) y 0 ≡ getD (t .up) y 0)
     (c : Bool) (x : ℕ) (same-link : link t' c x ≡ link t c x) (not-there : Counts t' c x k → ⊥) where
-
   counts-back : (y : ℕ) → Counts t' c x y → Counts t c x y
   counts-back y n =
       elim (same-or y k) [
@@ -58,8 +57,8 @@ module _ (t t' : Tree) (k : ℕ) (same-slots : slots t' ≡ slots t)
   child-gone e l =
       none-of t' c x
       (λ y n.
-        let old = counts-back y n in
-        not-there (subst (Counts t' c x) (sym (child-counts t c x y old) ∙ e) n))
+      let old = counts-back y n in
+      not-there (subst (Counts t' c x) (sym (child-counts t c x y old) ∙ e) n))
       ∙ same-slots
 
 -- A STRING AFTER AN EDIT of slot k: it keeps its slot, comes to slot k, or loses slot k
@@ -107,7 +106,6 @@ module _ (w : ℕ) (m m' : Memory) (whole : Whole m) (whole' : Whole m') (k : �
     (e : Edit w (m .tree) (m' .tree) k New)
     (other-hops : (x : ℕ) → (x ≡ k → ⊥) → getD (m' .hop) x 0 ≡ getD (m .hop) x 0) (empty : hopAt m' k ≡ none)
     (was-empty : (s : Bits) → length s ≤ w → find (m .tree) s ≡ k → hopAt m k ≡ none) where
-
   hop-moved : (s : Bits) → length s ≤ w → Moved (m .tree) (m' .tree) k New s → hopAt m' (find (m' .tree) s) ≡ hopAt m (find (m .tree) s)
   hop-moved s l (stays q other) = ap (hopAt m') q ∙ ap readHop (other-hops (find (m .tree) s) other)
   hop-moved s l (comes new q) =
@@ -119,11 +117,11 @@ module _ (w : ℕ) (m m' : Memory) (whole : Whole m) (whole' : Whole m') (k : �
   ledger-kept =
       fun-ext
       (λ s.
-        elim (below-or w (length s)) [
-          | inl l ↦ ledger-long w m' s l ∙ sym (ledger-long w m s l)
-          | inr l ↦
-              let short : length (reverse s) ≤ w = omega (arith, length-reverse s) in
-              ledger-at w m' s l
-              ∙ hop-moved (reverse s) short (moved w (m .tree) (m' .tree) k New e (reverse s) short)
-              ∙ sym (ledger-at w m s l)
-        ])
+      elim (below-or w (length s)) [
+        | inl l ↦ ledger-long w m' s l ∙ sym (ledger-long w m s l)
+        | inr l ↦
+            let short : length (reverse s) ≤ w = omega (arith, length-reverse s) in
+            ledger-at w m' s l
+            ∙ hop-moved (reverse s) short (moved w (m .tree) (m' .tree) k New e (reverse s) short)
+            ∙ sym (ledger-at w m s l)
+      ])

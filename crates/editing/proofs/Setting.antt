@@ -50,8 +50,8 @@ module _ (w : ℕ) (m : Memory) (k v : ℕ) (whole : Whole m) (slot-k : k < slot
                 | inl l ↦ rw e (ledger-long w (rehop m k v) s l ∙ sym (ledger-long w m s l))
                 | inr l ↦
                     let other : find (m .tree) (reverse s) ≡ k → ⊥ = λ h.
-                        let back = one-string (m .tree) (whole .shaped) s0 (reverse s) (there ∙ sym h) (omega arith) in
-                        never (subst (λ x. same (reverse s0) x ≡ true) (ap reverse back ∙ reverse-reverse s) (same-self (reverse s0))) e in
+                    let back = one-string (m .tree) (whole .shaped) s0 (reverse s) (there ∙ sym h) (omega arith) in
+                    never (subst (λ x. same (reverse s0) x ≡ true) (ap reverse back ∙ reverse-reverse s) (same-self (reverse s0))) e in
                     rw e (ledger-at w (rehop m k v) s l ∙ hop-elsewhere (find (m .tree) (reverse s)) other ∙ sym (ledger-at w m s l))
               ]
         ]
@@ -65,28 +65,28 @@ module _ (w : ℕ) (m : Memory) (k v : ℕ) (whole : Whole m) (slot-k : k < slot
     pub rehop-tidy : (readHop v ≡ none → v ≡ 0) → TidyBut w m k → TidyBut w (rehop m k v) k
     rehop-tidy canonical tidy = record {
       each-slot = λ j pos l other.
-        ⊎-map
-        (λ f. record {
-          no-mark = f .no-mark;
-          no-hi = f .no-hi;
-          no-hop = getD-set-other (m .hop) k j v 0 other ∙ f .no-hop;
-        })
-        (λ u. record {
-          string = u .string;
-          short = u .short;
-          there = u .there;
-          busy = busy-kept m (rehop m k v) (w - length (u .string)) j refl (hop-elsewhere j other) (λ c q. refl) (u .busy);
-        })
-        (tidy .each-slot j pos l other);
+          ⊎-map
+          (λ f. record {
+            no-mark = f .no-mark;
+            no-hi = f .no-hi;
+            no-hop = getD-set-other (m .hop) k j v 0 other ∙ f .no-hop;
+          })
+          (λ u. record {
+            string = u .string;
+            short = u .short;
+            there = u .there;
+            busy = busy-kept m (rehop m k v) (w - length (u .string)) j refl (hop-elsewhere j other) (λ c q. refl) (u .busy);
+          })
+          (tidy .each-slot j pos l other);
       neat = tidy .neat;
       plain = λ j e.
-        elim (same-or j k) [
-          | inl at-k ↦
-              let stored : getD (set (m .hop) k v) j 0 ≡ v =
-                  ap (λ x. getD (set (m .hop) k v) x 0) at-k ∙ getD-set-same (m .hop) k v 0 (omega (arith, whole .hops)) in
-              stored ∙ canonical (ap readHop (sym stored) ∙ e)
-          | inr other ↦ getD-set-other (m .hop) k j v 0 other ∙ tidy .plain j (sym (hop-elsewhere j other) ∙ e)
-        ];
+          elim (same-or j k) [
+            | inl at-k ↦
+                let stored : getD (set (m .hop) k v) j 0 ≡ v =
+                ap (λ x. getD (set (m .hop) k v) x 0) at-k ∙ getD-set-same (m .hop) k v 0 (omega (arith, whole .hops)) in
+                stored ∙ canonical (ap readHop (sym stored) ∙ e)
+            | inr other ↦ getD-set-other (m .hop) k j v 0 other ∙ tidy .plain j (sym (hop-elsewhere j other) ∙ e)
+          ];
     }
 
     pub rehop-done : (h : ℕ) → readHop v ≡ some h → TidyBut w m k → Tidy w (rehop m k v)

@@ -10,7 +10,6 @@ ghost use Rattle.memory.specs.Layout.{treeOf, memoryOf, slots, layoutSlots, Sha
 ghost use Rattle.memory.specs.Tidy.{bare};
 ghost use Rattle.editing.specs.Spare.{rises, idle, SpareFor};
 ghost use Rattle.editing.specs.Edits.{Hung, Dropped};
-
 use memory::Path;
 
 // Going up from a slot to slot 0 in at most `width` steps: 1 and the steps left, or 0 where the marks do not lead there.

@@ -63,15 +63,14 @@ module _ (w : ℕ) (m : Memory) (whole : Whole m) where
       needs-within w (slots (m .tree)) (ledgerOf w m) (λ s. find (m .tree) (reverse s))
       (λ s l e. elim (or-either (isEmpty s) (beginsHeld w (ledgerOf w m) s) e) [ inl h ↦ empty-slot s h | inr h ↦ begins-slot s h ])
       (λ s r e l.
-        sym (reverse-reverse s) ∙ ap reverse (one-string (m .tree) (whole .shaped) (reverse s) (reverse r) e l) ∙ reverse-reverse r)
+      sym (reverse-reverse s) ∙ ap reverse (one-string (m .tree) (whole .shaped) (reverse s) (reverse r) e l) ∙ reverse-reverse r)
 
   -- LIVE STRINGS: where each slot but the first has a string that begins a prefix of L, or is busy, and L holds what the memory
   -- holds, every string that has a slot begins a prefix of L.
   module _ (L : Ledger ℕ)
       (holds : (s : Bits) → length s ≤ w → isHeld (hopAt m (find (m .tree) s)) ≡ true → isHeld (L (reverse s)) ≡ true)
       (busy : (c : Bool) (s : Bits) → length (c ∷ s) ≤ w → find (m .tree) (c ∷ s) < slots (m .tree)
-        → (beginsHeld w L (reverse (c ∷ s)) ≡ true) ⊎ (bare m (w - length (c ∷ s)) (find (m .tree) (c ∷ s)) ≡ false)) where
-
+      → (beginsHeld w L (reverse (c ∷ s)) ≡ true) ⊎ (bare m (w - length (c ∷ s)) (find (m .tree) (c ∷ s)) ≡ false)) where
     held-begins : (s : Bits) → isHeld (L s) ≡ true → beginsHeld w L s ≡ true
     held-begins s h = begins-of-held w L s [] (omega arith) (ap (λ x. isHeld (L x)) (append-nil s) ∙ h)
 

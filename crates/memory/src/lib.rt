@@ -8,6 +8,9 @@ ghost use Rattle.theory.specs.Ledger.{isHeld, orElse, longest};
 ghost use Rattle.rules.specs.Numbers.{noRoute};
 ghost use Rattle.memory.specs.Path.{pathBit, pathBits};
 ghost use Rattle.memory.specs.Layout.{treeOf, memoryOf, slots, layoutSlots, Shaped, Whole, linkIn, mark, child, find, readHop, ledgerOf};
+use numbers::HIGHEST_HOP;
+use numbers::LOWEST_HOP;
+use numbers::NO_ROUTE;
 
 // The bits of an address, the first one highest: 64 in `high`, the next 64 in `low`.
 pub struct Path {
@@ -125,7 +128,7 @@ pub fn longest_match(
 {
     let mut slot: usize = 0;
     let mut depth: usize = 0;
-    let mut found = hop_or(hop[slot], 0);
+    let mut found = hop_or(hop[slot], NO_ROUTE);
     while depth < width {
         slot = child_of(lo, hi, up, slot, bit(path, depth));
         depth += 1;
@@ -136,8 +139,3 @@ pub fn longest_match(
     }
     found
 }
-
-// The hops that may be announced: document 01's numbers, as rules/specs/Numbers has them.
-pub const LOWEST_HOP: u32 = 1;
-
-pub const HIGHEST_HOP: u32 = 64;

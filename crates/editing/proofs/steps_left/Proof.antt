@@ -57,9 +57,12 @@ loop-less : tie.Need-loop-less Inv-loop μ-loop
 loop-less c = search needs
 
 loop-again : tie.Need-loop-again Inv-loop μ-loop
-loop-again c = (c .before .before .if3 .left, omega arith,
-    c .before .before .before .before .before .before .before .before .loop .inv .2 ∙ rises-on (treeOf (c .before .before .before .before .before .before .before .before .before .before .before .before .args .lo .now) (c .before .before .before .before .before .before .before .before .before .before .before .before .args .hi .now) (c .before .before .before .before .before .before .before .before .before .before .before .before .args .up .now)) (c .before .before .before .before .before .before .before .before .loop .left) (c .before .before .before .before .before .before .before .before .loop .at) (c .before .before .before .before .wide .result) (c .before .link-of .result) (c .before .before .before .before .wide .ensures) (c .before .link-of .ensures)
-    (c .before .before .before .before .before .before .before .loop-test .taken) (not-none _ (c .before .before .before .before .before .before .if1 .left)) (c .before .before .before .if2 .left) (c .if4 .left))
+loop-again c = (
+  c .before .before .if3 .left,
+  omega arith,
+  c .before .before .before .before .before .before .before .before .loop .inv .2 ∙ rises-on (treeOf (c .before .before .before .before .before .before .before .before .before .before .before .before .args .lo .now) (c .before .before .before .before .before .before .before .before .before .before .before .before .args .hi .now) (c .before .before .before .before .before .before .before .before .before .before .before .before .args .up .now)) (c .before .before .before .before .before .before .before .before .loop .left) (c .before .before .before .before .before .before .before .before .loop .at) (c .before .before .before .before .wide .result) (c .before .link-of .result) (c .before .before .before .before .wide .ensures) (c .before .link-of .ensures)
+      (c .before .before .before .before .before .before .before .loop-test .taken) (not-none _ (c .before .before .before .before .before .before .if1 .left)) (c .before .before .before .if2 .left) (c .if4 .left),
+)
 
 add-result : tie.Need-add-result Inv-loop μ-loop
 add-result c = search needs

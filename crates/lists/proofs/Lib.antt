@@ -1,0 +1,3 @@
+pub mod Follow
+pub mod Scan
+pub mod Promise

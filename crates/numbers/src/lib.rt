@@ -1,0 +1,53 @@
+// The numbers of document 01 that code uses, each in this one place; crates/rules/specs/Numbers.antt is the same for the statements.
+// A contract that cites one of those is proved only if the two agree.
+
+// An address has this many bits, and a prefix at most as many.
+pub const WIDTH: usize = 32;
+
+// The lengths that a prefix may have: 0 to 32.
+pub const LENGTHS: usize = WIDTH + 1;
+
+// A record has this many bytes, and its fields stand at these places.
+pub const RECORD: usize = 8;
+
+pub const SIZE_AT: usize = 4;
+
+pub const ACTION_AT: usize = 5;
+
+pub const HOP_AT: usize = 6;
+
+// The actions.
+pub const ANNOUNCE: u8 = 1;
+
+pub const WITHDRAW: u8 = 2;
+
+// The hops that may be announced, the one that a withdrawal carries, and the answer where there is no route.
+pub const LOWEST_HOP: u32 = 1;
+
+pub const HIGHEST_HOP: u32 = 64;
+
+pub const NO_HOP: u32 = 0;
+
+pub const NO_ROUTE: u32 = 0;
+
+// Slots that may be lent: at least one, and at most this many.
+pub const MOST_SLOTS: usize = 65536;
+
+// The refusals.
+pub const BAD_SLICES: u32 = 1;
+
+pub const NO_LEDGER: u32 = 2;
+
+pub const BAD_LIST_LENGTH: u32 = 3;
+
+pub const BAD_PREFIX_LENGTH: u32 = 4;
+
+pub const STRAY_BIT: u32 = 5;
+
+pub const BAD_ACTION: u32 = 6;
+
+pub const BAD_HOP: u32 = 7;
+
+pub const NOT_HELD: u32 = 8;
+
+pub const NO_SLOTS: u32 = 9;

@@ -1,0 +1,4 @@
+pub mod Masks
+pub mod Prefix
+pub mod Reading
+pub mod Promise
