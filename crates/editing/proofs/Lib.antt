@@ -4,3 +4,4 @@ pub mod Hanging
 pub mod Dropping
 pub mod Setting
 pub mod Exhausting
+pub mod Stores

@@ -7,13 +7,14 @@ use mathlib.Core.List.{[], _∷_}
 use Prim.Native.Nat.{ℕ, zero, suc, _+_, _*_, _-_, _/_, _%_, _≤_, _<_}
 use native.Mathlib.Nat.{sub-zero}
 use native.Mathlib.Omega.{arith}
-use native.Mathlib.Numerals.{add-one}
+use native.Mathlib.Numerals.{add-one, sub-one}
 use lib.Dec.{ltb, eqb}
 use lib.ListN.{length, getD}
 use borrow.Author.Tests.{ltb-true, eqb-true, eqb-false, lt-ltb, eq-eqb, ne-eqb, le-ltb}
 use Rattle.theory.specs.Bits.{Bits}
 use Rattle.theory.proofs.Hops.{by-test, never, and-both}
 use Rattle.memory.specs.Layout.{Tree, Memory, slots, Shaped, link, mark, child, find}
+use Rattle.memory.specs.Tidy.{bare}
 use Rattle.memory.proofs.Find.{Counts, same-or, not-none, child-counts, counts-of, parent-below, mark-positive, child-not-first}
 use Rattle.editing.specs.Spare.{parentOf, sideOf, hangs, rises, idleWith, idle}
 
@@ -156,3 +157,29 @@ module _ (t : Tree) where
               | inr h ↦ let f : 0 ≡ suc left = rw (q, h) at e in absurd (omega arith)
             ]
       ]
+
+-- A SLOT THAT MAY BE TAKEN, as code finds it out
+module _ (w : ℕ) (m : Memory) (k : ℕ) where
+  pub idle-unplaced : rises (m .tree) w k ≡ 0 → idle w m k ≡ true
+  unfolding idle
+  idle-unplaced e = rw e
+
+  pub idle-placed : (x : ℕ) → x ≡ rises (m .tree) w k → (x ≡ 0 → ⊥) → idle w m k ≡ bare m (x - 1) k
+  unfolding idle
+  idle-placed x e other = ap (idleWith m k) (sym e) ∙ by-steps x other
+    where
+      by-steps : (x : ℕ) → (x ≡ 0 → ⊥) → idleWith m k x ≡ bare m (x - 1) k
+      by-steps zero other = absurd (other refl)
+      by-steps (suc x) other = ap (λ y. bare m y k) (sym (sub-one (suc x)))
+
+  pub idle-unmarked : 0 < k → getD (m .tree .up) k 0 ≡ 0 → idle w m k ≡ true
+  idle-unmarked l e = idle-unplaced (rises-unmarked (m .tree) w k l e)
+
+-- every slot before one is in use, and this one is too, or is the tip: so is every slot before the next
+pub all-before : (w : ℕ) (m : Memory) (tip slot : ℕ) → ((j : ℕ) → 0 < j → j < slot → (j ≡ tip → ⊥) → idle w m j ≡ false)
+    → ((slot ≡ tip → ⊥) → idle w m slot ≡ false) → (j : ℕ) → 0 < j → j < slot + 1 → (j ≡ tip → ⊥) → idle w m j ≡ false
+all-before w m tip slot before here j p l other =
+    elim (same-or j slot) [
+      | inl e ↦ subst (λ x. idle w m x ≡ false) (sym e) (here (λ q. other (e ∙ q)))
+      | inr e ↦ before j p (omega arith) other
+    ]

@@ -1,9 +1,10 @@
 -- The two edits of the tree, place by place: a slot is hung below another, and a slot is taken out.
 use mathlib.Core.Path.{_≡_}
 use mathlib.Core.Bool.{Bool, true}
-use Prim.Native.Nat.{ℕ, _≤_, _<_}
-use lib.ListN.{getD, set}
-use Rattle.memory.specs.Layout.{Memory, slots, Whole, link, mark, holdsLedger}
+use mathlib.Core.List.{List}
+use Prim.Native.Nat.{ℕ, _<_}
+use lib.ListN.{length, getD, set}
+use Rattle.memory.specs.Layout.{Memory, slots, Whole, link, linkIn, mark, holdsLedger}
 
 -- what both keep: the number of slots, and that the memory holds a ledger
 pub record Kept (m m' : Memory) : Type 0 where
@@ -36,3 +37,10 @@ pub record Dropped (m m' : Memory) (p : ℕ) (b : Bool) (k : ℕ) : Type 0 where
 -- slot k has another number for its hop
 abbrev pub rehop : Memory → ℕ → ℕ → Memory
 rehop m k v = record { tree = m .tree; hop = set (m .hop) k v }
+
+-- the link of slot p behind bit b is v, and no other place of the two slices has changed
+pub record LinkSet (lo hi : List ℕ) (p : ℕ) (b : Bool) (v : ℕ) (lo' hi' : List ℕ) : Type 0 where
+  pub los : length lo' ≡ length lo
+  pub his : length hi' ≡ length hi
+  pub set-there : linkIn lo' hi' b p ≡ v
+  pub set-elsewhere : (x : ℕ) (c : Bool) → (x ≡ p → c ≡ b → ⊥) → linkIn lo' hi' c x ≡ linkIn lo hi c x

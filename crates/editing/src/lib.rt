@@ -9,7 +9,7 @@ ghost use Rattle.memory.specs.Path.{pathBit, pathBits};
 ghost use Rattle.memory.specs.Layout.{treeOf, memoryOf, slots, layoutSlots, Shaped, Whole, find};
 ghost use Rattle.memory.specs.Tidy.{bare};
 ghost use Rattle.editing.specs.Spare.{rises, idle, SpareFor};
-ghost use Rattle.editing.specs.Edits.{Hung, Dropped};
+ghost use Rattle.editing.specs.Edits.{LinkSet, Hung, Dropped};
 use memory::Path;
 
 // Going up from a slot to slot 0 in at most `width` steps: 1 and the steps left, or 0 where the marks do not lead there.
@@ -70,7 +70,9 @@ fn is_idle(lo: &[u32], hi: &[u32], up: &[u32], hop: &[u32], slot: usize, width: 
 }
 
 // The first free slot, as the chain has it: fresh memory is a chain from slot 1 on.
-fn first_free(head: u32) -> usize {
+fn first_free(head: u32) -> usize
+    ensures { λ r. ⌜ (0 < r) × (r < 4294967296) ⌝ }
+{
     if head == 0 { 1 } else { head as usize }
 }
 
@@ -81,12 +83,10 @@ fn spare(lo: &[u32], hi: &[u32], up: &[u32], hop: &[u32], tip: usize, width: usi
     ensures { λ r. ⌜ SpareFor width (memoryOf (now (lo .entry)) (now (hi .entry)) (now (up .entry)) (now (hop .entry))) tip r ⌝ }
 {
     let free = first_free(up[0]);
-    if free != 0 {
-        if free < up.len() {
-            if free != tip {
-                if up[free] == 0 {
-                    return free;
-                }
+    if free < up.len() {
+        if free != tip {
+            if up[free] == 0 {
+                return free;
             }
         }
     }
@@ -100,4 +100,75 @@ fn spare(lo: &[u32], hi: &[u32], up: &[u32], hop: &[u32], tip: usize, width: usi
         slot += 1;
     }
     up.len()
+}
+
+// The link of a slot behind a bit is set.
+fn set_link(lo: &mut [u32], hi: &mut [u32], slot: usize, right: bool, value: u32)
+    requires { ⌜ (slot < length (now lo)) × (slot < length (now hi)) ⌝ }
+    ensures { λ _. ⌜ LinkSet (now (lo .entry)) (now (hi .entry)) slot right value (now (lo .exit)) (now (hi .exit)) ⌝ }
+{
+    if right {
+        hi[slot] = value;
+    } else {
+        lo[slot] = value;
+    }
+}
+
+// The chain's first slot once `slot` is taken: the one behind it, if it was the first. Never behind the slots by more than 1.
+fn head_after(head: u32, slot: usize, next: u32, count: usize) -> u32
+    requires { ⌜ (slot < count) × (count ≤ layoutSlots) ⌝ }
+    ensures { λ r. ⌜ (head ≤ count → r ≤ count) ⌝ }
+{
+    if first_free(head) != slot {
+        return head;
+    }
+    let behind = if next == 0 { slot + 1 } else { next as usize };
+    if behind < count {
+        behind as u32
+    } else {
+        count as u32
+    }
+}
+
+// Slot `slot` is emptied and becomes the child of slot `parent` behind a bit.
+fn hang(
+    lo: &mut [u32],
+    hi: &mut [u32],
+    up: &mut [u32],
+    hop: &mut [u32],
+    parent: usize,
+    right: bool,
+    slot: usize,
+)
+    requires { ⌜ Whole (memoryOf (now lo) (now hi) (now up) (now hop)) × (parent < length (now up)) × (0 < slot) × (slot < length (now up)) × (slot ≡ parent → ⊥) ⌝ }
+    ensures { λ _. ⌜ Hung (memoryOf (now (lo .entry)) (now (hi .entry)) (now (up .entry)) (now (hop .entry))) (memoryOf (now (lo .exit)) (now (hi .exit)) (now (up .exit)) (now (hop .exit))) parent right slot ⌝ }
+{
+    up[0] = head_after(up[0], slot, lo[slot], lo.len());
+    up[slot] = memory::mark_of(parent, right) as u32;
+    lo[slot] = 0;
+    hi[slot] = 0;
+    hop[slot] = 0;
+    set_link(lo, hi, parent, right, slot as u32);
+}
+
+// Slot `slot`, the child of slot `parent` behind a bit, is freed and becomes the first of the chain.
+fn drop_slot(
+    lo: &mut [u32],
+    hi: &mut [u32],
+    up: &mut [u32],
+    hop: &mut [u32],
+    parent: usize,
+    right: bool,
+    slot: usize,
+)
+    requires { ⌜ Whole (memoryOf (now lo) (now hi) (now up) (now hop)) × (parent < length (now up)) × (0 < slot) × (slot < length (now up)) × (slot ≡ parent → ⊥) ⌝ }
+    ensures { λ _. ⌜ Dropped (memoryOf (now (lo .entry)) (now (hi .entry)) (now (up .entry)) (now (hop .entry))) (memoryOf (now (lo .exit)) (now (hi .exit)) (now (up .exit)) (now (hop .exit))) parent right slot ⌝ }
+{
+    let behind = first_free(up[0]) as u32;
+    up[0] = slot as u32;
+    up[slot] = 0;
+    lo[slot] = behind;
+    hi[slot] = 0;
+    hop[slot] = 0;
+    set_link(lo, hi, parent, right, 0);
 }

@@ -41,6 +41,10 @@ pub mark-positive : (p : ℕ) (b : Bool) → 0 < mark p b
 mark-positive p true = omega arith
 mark-positive p false = omega arith
 
+pub mark-bound : (p : ℕ) (b : Bool) → mark p b ≤ 2 * p + 2
+mark-bound p true = omega arith
+mark-bound p false = omega arith
+
 pub mark-parent : (p q : ℕ) (b c : Bool) → mark p b ≡ mark q c → p ≡ q
 mark-parent p q true true e = omega arith
 mark-parent p q true false e = absurd (omega arith)

@@ -1,30 +1,25 @@
+-- A slot from which going up fails has no string; any other is asked whether it is bare.
+use mathlib.Core.Path.{sym, _∙_}
+use Rattle.memory.specs.Layout.{memoryOf}
+use Rattle.editing.proofs.Rising.{idle-unplaced, idle-placed}
 use borrow.Author.Needs.{needs}
 use Rattle.editing.proofs.is_idle.Statement.{statement}
 use Rattle.editing.proofs.is_idle.Tie as tie
-use Rattle.editing.proofs.is_idle.Reads as reads
-use Rattle.editing.proofs.is_idle.Lts as lts
-use Rattle.editing.proofs.is_bare.Reads as is-bare-reads
-use Rattle.editing.proofs.steps_left.Reads as steps-left-reads
 
--- src/lib.rt:66:9
 steps-left-requires : tie.Need-steps-left-requires
 steps-left-requires c κs = search needs
 
--- src/lib.rt:68:9
 returns : tie.Need-returns
-returns c = ?
+returns c = sym (idle-unplaced (c .before .before .before .before .before .before .args .width) (memoryOf (c .before .before .before .before .before .before .args .lo .now) (c .before .before .before .before .before .before .args .hi .now) (c .before .before .before .before .before .before .args .up .now) (c .before .before .before .before .before .before .args .hop .now)) (c .before .before .before .before .before .before .args .slot) (sym (c .before .steps-left .ensures) ∙ c .if1 .taken))
 
--- src/lib.rt:70:36
 sub-is-bare : tie.Need-sub-is-bare
 sub-is-bare c = search needs
 
--- src/lib.rt:70:5
 is-bare-requires : tie.Need-is-bare-requires
 is-bare-requires c κs = search needs
 
--- src/lib.rt:62:1
 returns-2 : tie.Need-returns-2
-returns-2 c = ?
+returns-2 c = c .is-bare .ensures ∙ sym (idle-placed (c .before .before .before .before .before .before .before .args .width) (memoryOf (c .before .before .before .before .before .before .before .args .lo .now) (c .before .before .before .before .before .before .before .args .hi .now) (c .before .before .before .before .before .before .before .args .up .now) (c .before .before .before .before .before .before .before .args .hop .now)) (c .before .before .before .before .before .before .before .args .slot) (c .before .before .steps-left .result) (c .before .before .steps-left .ensures) (c .before .if1 .left))
 
 pub is-idle-spec : {M : Type 1} → statement M
 is-idle-spec =

@@ -1,63 +1,73 @@
+-- The chain's first slot has no mark; else every slot before the present one is in use.
+use borrow.Author.Needs.{needs}
+use mathlib.Core.Path.{_≡_, refl, sym, _∙_}
+use mathlib.Core.Bool.{false}
+use mathlib.Core.Logic.{inl, inr, ⊎-elim}
+use Prim.Native.Nat.{ℕ, _-_, _≤_, _<_}
+use native.Mathlib.Omega.{arith}
+use lib.ListN.{length}
+use Rattle.memory.specs.Layout.{memoryOf}
+use Rattle.editing.specs.Spare.{idle}
+use Rattle.editing.proofs.Rising.{idle-unmarked, all-before}
 use Rattle.editing.proofs.spare.Statement.{statement}
 use Rattle.editing.proofs.spare.Tie as tie
-use Rattle.editing.proofs.spare.Reads as reads
-use Rattle.editing.proofs.spare.Lts as lts
-use Rattle.editing.proofs.first_free.Reads as first-free-reads
-use Rattle.editing.proofs.is_idle.Reads as is-idle-reads
 
 abbrev Inv-loop : tie.InvT-loop
-Inv-loop lo hi up hop tip width free slot₀ slot = ?
+Inv-loop lo hi up hop tip width free slot₀ slot = (1 ≤ slot) × (slot ≤ length up) × ((j : ℕ) → 0 < j → j < slot → (j ≡ tip → ⊥) → idle width (memoryOf lo hi up hop) j ≡ false)
 
 abbrev μ-loop : tie.MeasureT-loop
-μ-loop lo hi up hop tip width free slot₀ slot = ?
+μ-loop lo hi up hop tip width free slot₀ slot = length up - slot
 
--- src/lib.rt:84:27
 shared-slice-read-first-free : tie.Need-shared-slice-read-first-free Inv-loop μ-loop
-shared-slice-read-first-free c = ?
+shared-slice-read-first-free c = omega (arith, c .before .before .before .before .before .pre .0 .shaped .some-slot)
 
--- src/lib.rt:84:9
 first-free-requires : tie.Need-first-free-requires Inv-loop μ-loop
-first-free-requires c κs = ?
+first-free-requires c κs = search needs
 
--- src/lib.rt:88:20
-mul-if4 : tie.Need-mul-if4 Inv-loop μ-loop
-mul-if4 c = ?
+mul-if3 : tie.Need-mul-if3 Inv-loop μ-loop
+mul-if3 c = search needs
 
--- src/lib.rt:88:20
-shared-slice-read-if4 : tie.Need-shared-slice-read-if4 Inv-loop μ-loop
-shared-slice-read-if4 c = ?
+shared-slice-read-if3 : tie.Need-shared-slice-read-if3 Inv-loop μ-loop
+shared-slice-read-if3 c = search needs
 
--- src/lib.rt:89:21
 returns : tie.Need-returns Inv-loop μ-loop
-returns c = ?
+returns c = inl record {
+  positive = c .before .before .before .before .first-free .ensures .0;
+  slot = c .before .before .before .if1 .taken;
+  other = c .before .before .if2 .taken;
+  unused = idle-unmarked (c .before .before .before .before .before .before .before .before .before .before .args .width) (memoryOf (c .before .before .before .before .before .before .before .before .before .before .args .lo .now) (c .before .before .before .before .before .before .before .before .before .before .args .hi .now) (c .before .before .before .before .before .before .before .before .before .before .args .up .now) (c .before .before .before .before .before .before .before .before .before .before .args .hop .now)) (c .before .before .before .before .first-free .result) (c .before .before .before .before .first-free .ensures .0) (c .if3 .taken);
+}
 
--- src/lib.rt:95:5
 loop-holds : tie.Need-loop-holds Inv-loop μ-loop
-loop-holds c = ?
+loop-holds c = (omega arith, omega (arith, c .before .before .before .before .before .before .before .pre .0 .shaped .some-slot), λ j p l other. absurd (omega arith))
 
--- src/lib.rt:97:16
 is-idle-requires : tie.Need-is-idle-requires Inv-loop μ-loop
-is-idle-requires c κs = ?
+is-idle-requires c κs = (c .before .before .before .before .before .before .before .before .before .before .pre .0, c .before .loop-test .taken, c .before .before .before .before .before .before .before .before .before .before .pre .1)
 
--- src/lib.rt:98:17
 returns-2 : tie.Need-returns-2 Inv-loop μ-loop
-returns-2 c = ?
+returns-2 c = inl record {
+  positive = omega (arith, c .before .before .before .before .loop .inv .0);
+  slot = c .before .before .before .loop-test .taken;
+  other = c .before .before .if4 .taken;
+  unused = sym (c .before .is-idle .ensures) ∙ c .if5 .taken;
+}
 
--- src/lib.rt:101:9
 add-slot : tie.Need-add-slot Inv-loop μ-loop
-add-slot c = ?
+add-slot c = omega arith
 
--- src/lib.rt:95:5
 loop-less : tie.Need-loop-less Inv-loop μ-loop
-loop-less c = ?
+loop-less c = omega arith
 
--- src/lib.rt:95:5
 loop-again : tie.Need-loop-again Inv-loop μ-loop
-loop-again c = ?
+loop-again c = (
+  omega (arith, c .before .before .loop .inv .0),
+  omega (arith, c .before .loop-test .taken),
+  all-before (c .before .before .before .before .before .before .before .before .before .before .args .width) (memoryOf (c .before .before .before .before .before .before .before .before .before .before .args .lo .now) (c .before .before .before .before .before .before .before .before .before .before .args .hi .now) (c .before .before .before .before .before .before .before .before .before .before .args .up .now) (c .before .before .before .before .before .before .before .before .before .before .args .hop .now)) (c .before .before .before .before .before .before .before .before .before .before .args .tip) (c .before .before .loop .slot) (c .before .before .loop .inv .2)
+      (⊎-elim (λ x other. sym (x .1 .ensures) ∙ x .2 .left) (λ x other. absurd (other (x .left))) (c .if4 .came)),
+)
 
--- src/lib.rt:80:1
 returns-3 : tie.Need-returns-3 Inv-loop μ-loop
-returns-3 c = ?
+returns-3 c = inr record { none = refl; all-used = λ j p l other. c .before .loop .inv .2 j p (omega (arith, c .loop-test .left)) other }
 
 pub spare-spec : {M : Type 1} → statement M
 spare-spec =
@@ -67,8 +77,8 @@ spare-spec =
     μ-loop
     shared-slice-read-first-free
     first-free-requires
-    mul-if4
-    shared-slice-read-if4
+    mul-if3
+    shared-slice-read-if3
     returns
     loop-holds
     is-idle-requires
