@@ -5,3 +5,5 @@ pub mod Dropping
 pub mod Setting
 pub mod Exhausting
 pub mod Stores
+pub mod Walking
+pub mod Ending

@@ -18,7 +18,7 @@ use Rattle.memory.specs.Tidy.{bare}
 use Rattle.memory.proofs.Find.{Counts, same-or, not-none, child-counts, counts-of, parent-below, mark-positive, child-not-first}
 use Rattle.editing.specs.Spare.{parentOf, sideOf, hangs, rises, idleWith, idle}
 
-parent-mark : (u p : ℕ) (b : Bool) → u ≡ mark p b → (u - 1) / 2 ≡ p
+pub parent-mark : (u p : ℕ) (b : Bool) → u ≡ mark p b → (u - 1) / 2 ≡ p
 parent-mark u p true e = omega arith
 parent-mark u p false e = omega arith
 

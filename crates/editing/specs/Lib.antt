@@ -1,2 +1,3 @@
 pub mod Spare
 pub mod Edits
+pub mod Routes

@@ -10,6 +10,7 @@ ghost use Rattle.memory.specs.Layout.{treeOf, memoryOf, slots, layoutSlots, Sha
 ghost use Rattle.memory.specs.Tidy.{bare};
 ghost use Rattle.editing.specs.Spare.{rises, idle, SpareFor};
 ghost use Rattle.editing.specs.Edits.{LinkSet, Hung, Dropped};
+ghost use Rattle.editing.specs.Routes.{CanWithdraw, CanAnnounce, OnPath, Reworked, Step, Announced, Withdrawn};
 use memory::Path;
 
 // Going up from a slot to slot 0 in at most `width` steps: 1 and the steps left, or 0 where the marks do not lead there.
@@ -171,4 +172,114 @@ fn drop_slot(
     hi[slot] = 0;
     hop[slot] = 0;
     set_link(lo, hi, parent, right, 0);
+}
+
+// The child of a slot on a path, made where there is none; the number of slots where no slot is left. The slot is that of the
+// path's first `depth` bits.
+fn extend(
+    lo: &mut [u32],
+    hi: &mut [u32],
+    up: &mut [u32],
+    hop: &mut [u32],
+    path: Path,
+    depth: usize,
+    width: usize,
+    slot: usize,
+) -> usize
+    requires { ⌜ OnPath width (memoryOf (now lo) (now hi) (now up) (now hop)) (pathBit path) depth slot × (depth < width) ⌝ }
+    ensures { λ r. ⌜ Step width (memoryOf (now (lo .entry)) (now (hi .entry)) (now (up .entry)) (now (hop .entry))) (memoryOf (now (lo .exit)) (now (hi .exit)) (now (up .exit)) (now (hop .exit))) (pathBit path) depth slot r ⌝ }
+{
+    let right = memory::bit(path, depth);
+    let next = memory::child_of(lo, hi, up, slot, right);
+    if next < up.len() {
+        return next;
+    }
+    let free = spare(lo, hi, up, hop, slot, width);
+    if free >= up.len() {
+        return free;
+    }
+    hang(lo, hi, up, hop, slot, right, free);
+    free
+}
+
+// From the slot of a path's first `size` bits upwards, bare slots are freed.
+fn prune(
+    lo: &mut [u32],
+    hi: &mut [u32],
+    up: &mut [u32],
+    hop: &mut [u32],
+    path: Path,
+    size: usize,
+    width: usize,
+    slot: usize,
+)
+    requires { ⌜ OnPath width (memoryOf (now lo) (now hi) (now up) (now hop)) (pathBit path) size slot ⌝ }
+    ensures { λ _. ⌜ Reworked width (memoryOf (now (lo .entry)) (now (hi .entry)) (now (up .entry)) (now (hop .entry))) (memoryOf (now (lo .exit)) (now (hi .exit)) (now (up .exit)) (now (hop .exit))) slot 0 ⌝ }
+{
+    let mut at = slot;
+    let mut depth = size;
+    while depth != 0 {
+        if !is_bare(lo, hi, up, hop, at, width - depth) {
+            return;
+        }
+        depth -= 1;
+        let parent = (memory::wide(up[at]) - 1) / 2;
+        drop_slot(lo, hi, up, hop, parent, memory::bit(path, depth), at);
+        at = parent;
+    }
+}
+
+// The prefix of a path's first `size` bits gets a hop, held before or not. False where the ledger would need more slots than
+// there are; the ledger is then as it was.
+pub fn announce(
+    lo: &mut [u32],
+    hi: &mut [u32],
+    up: &mut [u32],
+    hop: &mut [u32],
+    path: Path,
+    size: usize,
+    width: usize,
+    neighbour: u32,
+) -> bool
+    requires { ⌜ CanAnnounce width (memoryOf (now lo) (now hi) (now up) (now hop)) size neighbour ⌝ }
+    ensures { λ r. ⌜ Announced width (memoryOf (now (lo .entry)) (now (hi .entry)) (now (up .entry)) (now (hop .entry))) (memoryOf (now (lo .exit)) (now (hi .exit)) (now (up .exit)) (now (hop .exit))) (prefixOf (pathBit path) size) neighbour r ⌝ }
+{
+    let mut slot: usize = 0;
+    let mut depth: usize = 0;
+    while depth < size {
+        let next = extend(lo, hi, up, hop, path, depth, width, slot);
+        if next >= up.len() {
+            prune(lo, hi, up, hop, path, depth, width, slot);
+            return false;
+        }
+        slot = next;
+        depth += 1;
+    }
+    hop[slot] = neighbour + 1;
+    true
+}
+
+// The prefix of a path's first `size` bits is held no more. False where it was not held.
+pub fn withdraw(
+    lo: &mut [u32],
+    hi: &mut [u32],
+    up: &mut [u32],
+    hop: &mut [u32],
+    path: Path,
+    size: usize,
+    width: usize,
+) -> bool
+    requires { ⌜ CanWithdraw width (memoryOf (now lo) (now hi) (now up) (now hop)) size ⌝ }
+    ensures { λ r. ⌜ Withdrawn width (memoryOf (now (lo .entry)) (now (hi .entry)) (now (up .entry)) (now (hop .entry))) (memoryOf (now (lo .exit)) (now (hi .exit)) (now (up .exit)) (now (hop .exit))) (prefixOf (pathBit path) size) r ⌝ }
+{
+    let slot = memory::seek(lo, hi, up, path, size);
+    if slot >= up.len() {
+        return false;
+    }
+    if !memory::holds(hop[slot]) {
+        return false;
+    }
+    hop[slot] = 0;
+    prune(lo, hi, up, hop, path, size, width, slot);
+    true
 }

@@ -1,0 +1,95 @@
+-- The slot is looked for; where it holds a hop, that is set to none and what is bare now is freed.
+use mathlib.Core.Path.{sym, _∙_}
+use borrow.Author.Tests.{not-true, not-false}
+use Rattle.memory.specs.Path.{pathBit}
+use Rattle.memory.specs.Layout.{memoryOf}
+use Rattle.editing.proofs.Ending.{withdraw-no-slot, withdraw-no-hop, unheld-on, withdraw-taken}
+use borrow.Author.Needs.{needs}
+use Rattle.editing.proofs.withdraw.Statement.{statement}
+use Rattle.editing.proofs.withdraw.Tie as tie
+
+seek-requires : tie.Need-seek-requires
+seek-requires c κs = search needs
+
+same-length : tie.Need-same-length
+same-length c = search needs
+
+same-length-2 : tie.Need-same-length-2
+same-length-2 c = search needs
+
+same-length-3 : tie.Need-same-length-3
+same-length-3 c = search needs
+
+returns : tie.Need-returns
+returns c = withdraw-no-slot (c .before .before .before .before .before .before .before .before .before .args .width) (memoryOf (c .before .before .before .before .before .before .before .before .before .args .lo .now) (c .before .before .before .before .before .before .before .before .before .args .hi .now) (c .before .before .before .before .before .before .before .before .before .args .up .now) (c .before .before .before .before .before .before .before .before .before .args .hop .now)) (pathBit (c .before .before .before .before .before .before .before .before .before .args .path)) (c .before .before .before .before .before .before .before .before .before .args .size) (c .before .seek .result) (c .before .before .before .before .before .before .before .before .before .pre) (c .before .seek .ensures) (c .if1 .taken)
+
+mul-holds : tie.Need-mul-holds
+mul-holds c = search needs
+
+slice-read-holds : tie.Need-slice-read-holds
+slice-read-holds c = search needs
+
+holds-requires : tie.Need-holds-requires
+holds-requires c κs = search needs
+
+same-length-4 : tie.Need-same-length-4
+same-length-4 c = search needs
+
+same-length-5 : tie.Need-same-length-5
+same-length-5 c = search needs
+
+same-length-6 : tie.Need-same-length-6
+same-length-6 c = search needs
+
+returns-2 : tie.Need-returns-2
+returns-2 c = withdraw-no-hop (c .before .before .before .before .before .before .before .before .before .before .before .before .args .width) (memoryOf (c .before .before .before .before .before .before .before .before .before .before .before .before .args .lo .now) (c .before .before .before .before .before .before .before .before .before .before .before .before .args .hi .now) (c .before .before .before .before .before .before .before .before .before .before .before .before .args .up .now) (c .before .before .before .before .before .before .before .before .before .before .before .before .args .hop .now)) (pathBit (c .before .before .before .before .before .before .before .before .before .before .before .before .args .path)) (c .before .before .before .before .before .before .before .before .before .before .before .before .args .size) (c .before .before .before .before .seek .result) (c .before .before .before .before .before .before .before .before .before .before .before .before .pre) (c .before .before .before .before .seek .ensures) (sym (c .before .holds .ensures) ∙ not-true (c .before .holds .result) (c .if2 .taken))
+
+mul-hop : tie.Need-mul-hop
+mul-hop c = search needs
+
+slice-write-hop : tie.Need-slice-write-hop
+slice-write-hop c = search needs
+
+prune-requires : tie.Need-prune-requires
+prune-requires c κs = unheld-on (c .before .before .before .before .before .before .before .before .before .before .before .before .before .before .before .before .args .width) (memoryOf (c .before .before .before .before .before .before .before .before .before .before .before .before .before .before .before .before .args .lo .now) (c .before .before .before .before .before .before .before .before .before .before .before .before .before .before .before .before .args .hi .now) (c .before .before .before .before .before .before .before .before .before .before .before .before .before .before .before .before .args .up .now) (c .before .before .before .before .before .before .before .before .before .before .before .before .before .before .before .before .args .hop .now)) (pathBit (c .before .before .before .before .before .before .before .before .before .before .before .before .before .before .before .before .args .path)) (c .before .before .before .before .before .before .before .before .before .before .before .before .before .before .before .before .args .size) (c .before .before .before .before .before .before .before .before .seek .result) (c .before .before .before .before .before .before .before .before .before .before .before .before .before .before .before .before .pre) (c .before .before .before .before .before .before .before .before .seek .ensures) (c .before .before .before .before .before .before .before .if1 .left)
+
+same-length-7 : tie.Need-same-length-7
+same-length-7 c = search needs
+
+same-length-8 : tie.Need-same-length-8
+same-length-8 c = search needs
+
+same-length-9 : tie.Need-same-length-9
+same-length-9 c = search needs
+
+same-length-10 : tie.Need-same-length-10
+same-length-10 c = search needs
+
+returns-3 : tie.Need-returns-3
+returns-3 c = withdraw-taken (c .before .before .before .before .before .before .before .before .before .before .before .before .before .before .before .before .before .before .before .before .before .before .before .before .before .args .width) (memoryOf (c .before .before .before .before .before .before .before .before .before .before .before .before .before .before .before .before .before .before .before .before .before .before .before .before .before .args .lo .now) (c .before .before .before .before .before .before .before .before .before .before .before .before .before .before .before .before .before .before .before .before .before .before .before .before .before .args .hi .now) (c .before .before .before .before .before .before .before .before .before .before .before .before .before .before .before .before .before .before .before .before .before .before .before .before .before .args .up .now) (c .before .before .before .before .before .before .before .before .before .before .before .before .before .before .before .before .before .before .before .before .before .before .before .before .before .args .hop .now)) (pathBit (c .before .before .before .before .before .before .before .before .before .before .before .before .before .before .before .before .before .before .before .before .before .before .before .before .before .args .path)) (c .before .before .before .before .before .before .before .before .before .before .before .before .before .before .before .before .before .before .before .before .before .before .before .before .before .args .size) (c .before .before .before .before .before .before .before .before .before .before .before .before .before .before .before .before .before .seek .result) (c .before .before .before .before .before .before .before .before .before .before .before .before .before .before .before .before .before .before .before .before .before .before .before .before .before .pre) (c .before .before .before .before .before .before .before .before .before .before .before .before .before .before .before .before .before .seek .ensures) (c .before .before .before .before .before .before .before .before .before .before .before .before .before .before .before .before .if1 .left) (sym (c .before .before .before .before .before .before .before .before .before .before .before .before .before .before .holds .ensures) ∙ not-false (c .before .before .before .before .before .before .before .before .before .before .before .before .before .before .holds .result) (c .before .before .before .before .before .before .before .before .before .before .before .before .before .if2 .left))
+    (memoryOf (c .before .before .before .before .before .before .before .before .prune .last .0) (c .before .before .before .before .before .before .before .before .prune .last .1 .0) (c .before .before .before .before .before .before .before .before .prune .last .1 .1 .0) (c .before .before .before .before .before .before .before .before .prune .last .1 .1 .1 .0)) (c .before .before .before .before .before .before .before .before .prune .ensures)
+
+pub withdraw-spec : {M : Type 1} → statement M
+withdraw-spec =
+    tie.close
+    (tie.spec
+    seek-requires
+    same-length
+    same-length-2
+    same-length-3
+    returns
+    mul-holds
+    slice-read-holds
+    holds-requires
+    same-length-4
+    same-length-5
+    same-length-6
+    returns-2
+    mul-hop
+    slice-write-hop
+    prune-requires
+    same-length-7
+    same-length-8
+    same-length-9
+    same-length-10
+    returns-3)
