@@ -1,0 +1,85 @@
+-- WHAT THE CALLS PROMISE: update and lookup on lent slices, whatever they hold. Memory is read by the layout of
+-- memory/specs/Layout, and w is the address's width.
+use mathlib.Core.Path.{_≡_}
+use mathlib.Core.Bool.{Bool, true, false, not, _&&_, _||_}
+use mathlib.Core.List.{List, [], _∷_}
+use mathlib.Core.Option.{Option, none, some}
+use Prim.Native.Nat.{ℕ}
+use lib.Dec.{eqb, ltb}
+use lib.ListN.{length}
+use Rattle.theory.specs.Ledger.{isHeld}
+use Rattle.rules.specs.Numbers.{ipv4, width, mostSlots, badSlices, noLedger, badListLength}
+use Rattle.rules.specs.Records.{Rule, _refusedBy_, firstFault, wholeRecords}
+use Rattle.rules.specs.Plain.{Applied, complete, updated}
+use Rattle.rules.specs.Lookup.{Answer, hopOf}
+use Rattle.memory.specs.Layout.{Memory, slots, ledgerOf, holdsLedger}
+use Rattle.memory.specs.Tidy.{Tidy}
+use Rattle.lists.specs.declared.Found.{Found}
+use Rattle.lists.specs.Promise.{answerOf}
+use Rattle.ledger.specs.declared.Updated.{Updated}
+use Rattle.ledger.specs.declared.Updated.the-variants.{Complete, Refused}
+
+-- THE WHOLE CALL'S RULES. 1: the slices differ in length, or have no slot or too many. 2: they hold no ledger.
+abbrev pub sameLengths : Memory → Bool
+sameLengths m =
+    eqb (length (m .tree .lo)) (slots (m .tree))
+    && (eqb (length (m .tree .hi)) (slots (m .tree)) && eqb (length (m .hop)) (slots (m .tree)))
+
+abbrev pub badLent : Memory → Bool
+badLent m = not (sameLengths m) || (eqb (slots (m .tree)) 0 || ltb mostSlots (slots (m .tree)))
+
+unfoldable pub lentFault : Memory → Option ℕ
+lentFault m = firstFault (badLent m refusedBy badSlices ∷ not (holdsLedger (m .tree)) refusedBy noLedger ∷ [])
+
+-- UPDATE, as a function of what is lent: the refusal, the count of records applied, and the ledger after those
+abbrev pub afterFault : Option ℕ → Memory → List ℕ → Applied
+afterFault none m list = updated ipv4 (slots (m .tree)) (ledgerOf (width ipv4) m) list
+afterFault (some x) m list = record { refusal = some x; count = 0; ledger = ledgerOf (width ipv4) m }
+
+unfoldable pub updateOf : Memory → List ℕ → Applied
+updateOf m list = afterFault (lentFault m) m list
+
+-- the paper's number and values for each answer
+pub record Report : Type 0 where
+  pub refusal : Option ℕ
+  pub count : ℕ
+  pub complete : Bool
+
+abbrev pub reportOf : Updated → Report
+reportOf (Complete count) = record { refusal = none; count = count; complete = true }
+reportOf (Refused number count) = record { refusal = some number; count = count; complete = false }
+
+abbrev pub reported : Applied → Report
+reported a = record { refusal = a .refusal; count = a .count; complete = complete a }
+
+-- the whole call is refused, with 1, 2 or 3
+unfoldable pub wholeFault : Memory → List ℕ → Option ℕ
+wholeFault m list =
+    firstFault (badLent m refusedBy badSlices ∷ not (holdsLedger (m .tree)) refusedBy noLedger ∷ not (wholeRecords ipv4 list) refusedBy badListLength ∷ [])
+
+-- as many elements in each slice as before
+pub record SameLengths (m m' : Memory) : Type 0 where
+  pub los : length (m' .tree .lo) ≡ length (m .tree .lo)
+  pub his : length (m' .tree .hi) ≡ length (m .tree .hi)
+  pub ups : slots (m' .tree) ≡ slots (m .tree)
+  pub hops : length (m' .hop) ≡ length (m .hop)
+
+pub record Updates (m : Memory) (list : List ℕ) (m' : Memory) (r : Updated) : Type 0 where
+  -- the answer, and the ledger that is left: the count is that of the records which made it
+  pub answer : reportOf r ≡ reported (updateOf m list)
+  pub ledger : ledgerOf (width ipv4) m' ≡ updateOf m list .ledger
+  -- 1, 2 and 3 leave every element as it was
+  pub unchanged : isHeld (wholeFault m list) ≡ true → m' ≡ m
+  pub same-lengths : SameLengths m m'
+  -- what holds a ledger goes on holding one, and tidy memory stays tidy: with its ledger it is then fixed but for which slot a
+  -- string lies in and the chain of free slots
+  pub no-2-later : lentFault m ≡ none → lentFault m' ≡ none
+  pub tidy : Tidy (width ipv4) m → Tidy (width ipv4) m'
+
+-- LOOKUP, as a function of what is lent; it is lent for reading alone, so it changes nothing
+abbrev pub foundAfter : Option ℕ → Memory → ℕ → Answer
+foundAfter none m x = record { refusal = none; hop = hopOf ipv4 (ledgerOf (width ipv4) m) x; place = 0 }
+foundAfter (some n) m x = record { refusal = some n; hop = 0; place = 0 }
+
+pub record LooksUp (m : Memory) (address : ℕ) (r : Found) : Type 0 where
+  pub answer : answerOf r ≡ foundAfter (lentFault m) m address
