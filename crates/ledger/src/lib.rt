@@ -9,16 +9,15 @@ ghost use Rattle.memory.specs.Layout.{memoryOf, Whole};
 ghost use Rattle.records.specs.Promise.{CanRead};
 ghost use Rattle.ledger.specs.Promise.{Updates, LooksUp};
 ghost use Rattle.ledger.specs.Steps.{IsPathOf, FaultOf, AppliesOne};
-
 use lists::Found;
 use memory::Path;
 use numbers::BAD_LIST_LENGTH;
 use numbers::BAD_SLICES;
 use numbers::LENGTHS;
 use numbers::MOST_SLOTS;
-use numbers::NOT_HELD;
 use numbers::NO_LEDGER;
 use numbers::NO_SLOTS;
+use numbers::NOT_HELD;
 use numbers::RECORD;
 use numbers::WIDTH;
 use records::Record;
@@ -66,7 +65,15 @@ fn lent_fault(lo: &[u32], hi: &[u32], up: &[u32], hop: &[u32]) -> u32
 }
 
 // The record at `at` is read and applied: 0, or the number of its refusal.
-fn apply_record(lo: &mut [u32], hi: &mut [u32], up: &mut [u32], hop: &mut [u32], list: &[u8], at: usize, masks: &[u32; LENGTHS]) -> u32
+fn apply_record(
+    lo: &mut [u32],
+    hi: &mut [u32],
+    up: &mut [u32],
+    hop: &mut [u32],
+    list: &[u8],
+    at: usize,
+    masks: &[u32; LENGTHS],
+) -> u32
     requires { ⌜ Whole (memoryOf (now lo) (now hi) (now up) (now hop)) × CanRead (now list) at (now masks) ⌝ }
     ensures { λ r. ⌜ AppliesOne (memoryOf (now (lo .entry)) (now (hi .entry)) (now (up .entry)) (now (hop .entry))) (memoryOf (now (lo .exit)) (now (hi .exit)) (now (up .exit)) (now (hop .exit))) (read update ipv4 (take (recordBytes ipv4) (drop at (now (list .entry))))) r ⌝ }
 {
@@ -93,7 +100,13 @@ fn apply_record(lo: &mut [u32], hi: &mut [u32], up: &mut [u32], hop: &mut [u32],
 }
 
 // A list of records is applied in order, up to the first that is refused.
-pub fn update(lo: &mut [u32], hi: &mut [u32], up: &mut [u32], hop: &mut [u32], list: &[u8]) -> Updated
+pub fn update(
+    lo: &mut [u32],
+    hi: &mut [u32],
+    up: &mut [u32],
+    hop: &mut [u32],
+    list: &[u8],
+) -> Updated
     ensures { λ r. ⌜ Updates (memoryOf (now (lo .entry)) (now (hi .entry)) (now (up .entry)) (now (hop .entry))) (now (list .entry)) (memoryOf (now (lo .exit)) (now (hi .exit)) (now (up .exit)) (now (hop .exit))) r ⌝ }
 {
     let fault = lent_fault(lo, hi, up, hop);

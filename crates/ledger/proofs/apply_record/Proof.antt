@@ -1,128 +1,109 @@
+-- The record is read; a route is set or removed, and its answer is that of the plain ledger.
+use mathlib.Core.Path.{subst}
+use mathlib.Core.Bool.{true}
+use Rattle.records.specs.declared.Record.the-variants.{Announces, Withdraws}
+use Rattle.records.specs.Promise.{ReadsRecord}
+use Rattle.memory.specs.Layout.{memoryOf}
+use Rattle.ledger.proofs.Applying.{applies-faulty, can-announce, announcement-taken, announcement-refused, can-withdraw, withdrawal-taken, withdrawal-refused}
 use borrow.Author.Needs.{needs}
 use Rattle.ledger.proofs.apply_record.Statement.{statement}
 use Rattle.ledger.proofs.apply_record.Tie as tie
-use Rattle.ledger.proofs.apply_record.Reads as reads
-use Rattle.ledger.proofs.apply_record.Lts as lts
-use Rattle.editing.proofs.announce.Reads as announce-reads
-use Rattle.editing.proofs.withdraw.Reads as withdraw-reads
-use Rattle.ledger.proofs.path_of.Reads as path-of-reads
-use Rattle.records.proofs.read_record.Reads as read-record-reads
 
--- src/lib.rt:73:9
+-- in each arm, the record that was read is that of the arm
+announced : (c : tie.After-next)
+    → ReadsRecord (c .before .before .before .before .before .before .before .before .args .list .now) (c .before .before .before .before .before .before .before .before .args .at) true (Announces (c .next .given .0 .0) (c .next .given .0 .1 .0) (c .next .given .0 .1 .1 .0))
+announced c = subst (ReadsRecord _ _ true) (c .next .given .1) (c .before .before .read-record .ensures)
+
+withdrawn : (c : tie.After-next2)
+    → ReadsRecord (c .before .before .before .before .before .before .before .before .args .list .now) (c .before .before .before .before .before .before .before .before .args .at) true (Withdraws (c .next2 .given .0 .0) (c .next2 .given .0 .1 .0))
+withdrawn c = subst (ReadsRecord _ _ true) (c .next2 .given .1) (c .before .before .read-record .ensures)
+
 read-record-requires : tie.Need-read-record-requires
 read-record-requires c κs = search needs
 
--- src/lib.rt:76:13
 enum-known-next : tie.Need-enum-known-next
 enum-known-next c = search needs
 
--- src/lib.rt:80:51
 path-of-requires : tie.Need-path-of-requires
 path-of-requires c κs = search needs
 
--- src/lib.rt:80:16
 announce-requires : tie.Need-announce-requires
-announce-requires c κs = ?
+announce-requires c κs = can-announce (c .before .before .before .before .before .before .before .before .before .before .before .before .before .before .args .list .now) (c .before .before .before .before .before .before .before .before .before .before .before .before .before .before .args .at) (memoryOf (c .before .before .before .before .before .before .before .before .before .before .before .before .before .before .args .lo .now) (c .before .before .before .before .before .before .before .before .before .before .before .before .before .before .args .hi .now) (c .before .before .before .before .before .before .before .before .before .before .before .before .before .before .args .up .now) (c .before .before .before .before .before .before .before .before .before .before .before .before .before .before .args .hop .now)) (c .before .before .before .before .before .before .before .before .before .before .before .before .before .before .pre .0) (c .before .before .before .before .before .before .next .given .0 .0) (c .before .before .before .before .before .before .next .given .0 .1 .0) (c .path-of .result) (c .path-of .ensures) (c .before .before .before .before .before .before .next .given .0 .1 .1 .0) (announced (c .before .before .before .before .before .before))
 
--- src/lib.rt:81:17
 same-length : tie.Need-same-length
 same-length c = search needs
 
--- src/lib.rt:81:17
 same-length-2 : tie.Need-same-length-2
 same-length-2 c = search needs
 
--- src/lib.rt:81:17
 same-length-3 : tie.Need-same-length-3
 same-length-3 c = search needs
 
--- src/lib.rt:81:17
 same-length-4 : tie.Need-same-length-4
 same-length-4 c = search needs
 
--- src/lib.rt:81:17
 returns : tie.Need-returns
-returns c = ?
+returns c = announcement-taken (c .before .before .before .before .before .before .before .before .before .before .before .before .before .before .before .before .before .before .before .before .before .before .before .before .args .list .now) (c .before .before .before .before .before .before .before .before .before .before .before .before .before .before .before .before .before .before .before .before .before .before .before .before .args .at) (memoryOf (c .before .before .before .before .before .before .before .before .before .before .before .before .before .before .before .before .before .before .before .before .before .before .before .before .args .lo .now) (c .before .before .before .before .before .before .before .before .before .before .before .before .before .before .before .before .before .before .before .before .before .before .before .before .args .hi .now) (c .before .before .before .before .before .before .before .before .before .before .before .before .before .before .before .before .before .before .before .before .before .before .before .before .args .up .now) (c .before .before .before .before .before .before .before .before .before .before .before .before .before .before .before .before .before .before .before .before .before .before .before .before .args .hop .now)) (c .before .before .before .before .before .before .before .before .before .before .before .before .before .before .before .before .before .before .before .before .before .before .before .before .pre .0) (c .before .before .before .before .before .before .before .before .before .before .before .before .before .before .before .before .next .given .0 .0) (c .before .before .before .before .before .before .before .before .before .before .before .before .before .before .before .before .next .given .0 .1 .0) (c .before .before .before .before .before .before .before .before .before .before .path-of .result) (c .before .before .before .before .before .before .before .before .before .before .path-of .ensures) (c .before .before .before .before .before .before .before .before .before .before .before .before .before .before .before .before .next .given .0 .1 .1 .0) (announced (c .before .before .before .before .before .before .before .before .before .before .before .before .before .before .before .before)) (memoryOf (c .before .before .before .before .before .before .before .before .before .announce .last .0) (c .before .before .before .before .before .before .before .before .before .announce .last .1 .0) (c .before .before .before .before .before .before .before .before .before .announce .last .1 .1 .0) (c .before .before .before .before .before .before .before .before .before .announce .last .1 .1 .1 .0)) (c .before .before .before .before .before .before .before .before .before .announce .result) (c .before .before .before .before .before .before .before .before .before .announce .ensures) (c .if1 .taken)
 
--- src/lib.rt:85:29
 enum-known-next-2 : tie.Need-enum-known-next-2
 enum-known-next-2 c = search needs
 
--- src/lib.rt:86:51
 path-of-requires-2 : tie.Need-path-of-requires-2
 path-of-requires-2 c κs = search needs
 
--- src/lib.rt:86:16
 withdraw-requires : tie.Need-withdraw-requires
-withdraw-requires c κs = ?
+withdraw-requires c κs = can-withdraw (c .before .before .before .before .before .before .before .before .before .before .before .before .before .before .args .list .now) (c .before .before .before .before .before .before .before .before .before .before .before .before .before .before .args .at) (memoryOf (c .before .before .before .before .before .before .before .before .before .before .before .before .before .before .args .lo .now) (c .before .before .before .before .before .before .before .before .before .before .before .before .before .before .args .hi .now) (c .before .before .before .before .before .before .before .before .before .before .before .before .before .before .args .up .now) (c .before .before .before .before .before .before .before .before .before .before .before .before .before .before .args .hop .now)) (c .before .before .before .before .before .before .before .before .before .before .before .before .before .before .pre .0) (c .before .before .before .before .before .before .next2 .given .0 .0) (c .before .before .before .before .before .before .next2 .given .0 .1 .0) (c .path-of2 .result) (c .path-of2 .ensures) (withdrawn (c .before .before .before .before .before .before))
 
--- src/lib.rt:87:17
 same-length-5 : tie.Need-same-length-5
 same-length-5 c = search needs
 
--- src/lib.rt:87:17
 same-length-6 : tie.Need-same-length-6
 same-length-6 c = search needs
 
--- src/lib.rt:87:17
 same-length-7 : tie.Need-same-length-7
 same-length-7 c = search needs
 
--- src/lib.rt:87:17
 same-length-8 : tie.Need-same-length-8
 same-length-8 c = search needs
 
--- src/lib.rt:87:17
 returns-2 : tie.Need-returns-2
-returns-2 c = ?
+returns-2 c = withdrawal-taken (c .before .before .before .before .before .before .before .before .before .before .before .before .before .before .before .before .before .before .before .before .before .before .before .before .args .list .now) (c .before .before .before .before .before .before .before .before .before .before .before .before .before .before .before .before .before .before .before .before .before .before .before .before .args .at) (memoryOf (c .before .before .before .before .before .before .before .before .before .before .before .before .before .before .before .before .before .before .before .before .before .before .before .before .args .lo .now) (c .before .before .before .before .before .before .before .before .before .before .before .before .before .before .before .before .before .before .before .before .before .before .before .before .args .hi .now) (c .before .before .before .before .before .before .before .before .before .before .before .before .before .before .before .before .before .before .before .before .before .before .before .before .args .up .now) (c .before .before .before .before .before .before .before .before .before .before .before .before .before .before .before .before .before .before .before .before .before .before .before .before .args .hop .now)) (c .before .before .before .before .before .before .before .before .before .before .before .before .before .before .before .before .before .before .before .before .before .before .before .before .pre .0) (c .before .before .before .before .before .before .before .before .before .before .before .before .before .before .before .before .next2 .given .0 .0) (c .before .before .before .before .before .before .before .before .before .before .before .before .before .before .before .before .next2 .given .0 .1 .0) (c .before .before .before .before .before .before .before .before .before .before .path-of2 .result) (c .before .before .before .before .before .before .before .before .before .before .path-of2 .ensures) (withdrawn (c .before .before .before .before .before .before .before .before .before .before .before .before .before .before .before .before)) (memoryOf (c .before .before .before .before .before .before .before .before .before .withdraw .last .0) (c .before .before .before .before .before .before .before .before .before .withdraw .last .1 .0) (c .before .before .before .before .before .before .before .before .before .withdraw .last .1 .1 .0) (c .before .before .before .before .before .before .before .before .before .withdraw .last .1 .1 .1 .0)) (c .before .before .before .before .before .before .before .before .before .withdraw .result) (c .before .before .before .before .before .before .before .before .before .withdraw .ensures) (c .if2 .taken)
 
--- src/lib.rt:91:26
 enum-known-next-3 : tie.Need-enum-known-next-3
 enum-known-next-3 c = search needs
 
--- src/lib.rt:69:1
 same-length-9 : tie.Need-same-length-9
 same-length-9 c = search needs
 
--- src/lib.rt:69:1
 same-length-10 : tie.Need-same-length-10
 same-length-10 c = search needs
 
--- src/lib.rt:69:1
 same-length-11 : tie.Need-same-length-11
 same-length-11 c = search needs
 
--- src/lib.rt:69:1
 same-length-12 : tie.Need-same-length-12
 same-length-12 c = search needs
 
--- src/lib.rt:69:1
 returns-3 : tie.Need-returns-3
-returns-3 c = ?
+returns-3 c = announcement-refused (c .before .before .before .before .before .before .before .before .before .before .before .before .before .before .before .before .before .before .before .before .before .before .before .before .args .list .now) (c .before .before .before .before .before .before .before .before .before .before .before .before .before .before .before .before .before .before .before .before .before .before .before .before .args .at) (memoryOf (c .before .before .before .before .before .before .before .before .before .before .before .before .before .before .before .before .before .before .before .before .before .before .before .before .args .lo .now) (c .before .before .before .before .before .before .before .before .before .before .before .before .before .before .before .before .before .before .before .before .before .before .before .before .args .hi .now) (c .before .before .before .before .before .before .before .before .before .before .before .before .before .before .before .before .before .before .before .before .before .before .before .before .args .up .now) (c .before .before .before .before .before .before .before .before .before .before .before .before .before .before .before .before .before .before .before .before .before .before .before .before .args .hop .now)) (c .before .before .before .before .before .before .before .before .before .before .before .before .before .before .before .before .before .before .before .before .before .before .before .before .pre .0) (c .before .before .before .before .before .before .before .before .before .before .before .before .before .before .before .before .next .given .0 .0) (c .before .before .before .before .before .before .before .before .before .before .before .before .before .before .before .before .next .given .0 .1 .0) (c .before .before .before .before .before .before .before .before .before .before .path-of .result) (c .before .before .before .before .before .before .before .before .before .before .path-of .ensures) (c .before .before .before .before .before .before .before .before .before .before .before .before .before .before .before .before .next .given .0 .1 .1 .0) (announced (c .before .before .before .before .before .before .before .before .before .before .before .before .before .before .before .before)) (memoryOf (c .before .before .before .before .before .before .before .before .before .announce .last .0) (c .before .before .before .before .before .before .before .before .before .announce .last .1 .0) (c .before .before .before .before .before .before .before .before .before .announce .last .1 .1 .0) (c .before .before .before .before .before .before .before .before .before .announce .last .1 .1 .1 .0)) (c .before .before .before .before .before .before .before .before .before .announce .result) (c .before .before .before .before .before .before .before .before .before .announce .ensures) (c .if1 .left)
 
--- src/lib.rt:69:1
 same-length-13 : tie.Need-same-length-13
 same-length-13 c = search needs
 
--- src/lib.rt:69:1
 same-length-14 : tie.Need-same-length-14
 same-length-14 c = search needs
 
--- src/lib.rt:69:1
 same-length-15 : tie.Need-same-length-15
 same-length-15 c = search needs
 
--- src/lib.rt:69:1
 same-length-16 : tie.Need-same-length-16
 same-length-16 c = search needs
 
--- src/lib.rt:69:1
 returns-4 : tie.Need-returns-4
-returns-4 c = ?
+returns-4 c = withdrawal-refused (c .before .before .before .before .before .before .before .before .before .before .before .before .before .before .before .before .before .before .before .before .before .before .before .before .args .list .now) (c .before .before .before .before .before .before .before .before .before .before .before .before .before .before .before .before .before .before .before .before .before .before .before .before .args .at) (memoryOf (c .before .before .before .before .before .before .before .before .before .before .before .before .before .before .before .before .before .before .before .before .before .before .before .before .args .lo .now) (c .before .before .before .before .before .before .before .before .before .before .before .before .before .before .before .before .before .before .before .before .before .before .before .before .args .hi .now) (c .before .before .before .before .before .before .before .before .before .before .before .before .before .before .before .before .before .before .before .before .before .before .before .before .args .up .now) (c .before .before .before .before .before .before .before .before .before .before .before .before .before .before .before .before .before .before .before .before .before .before .before .before .args .hop .now)) (c .before .before .before .before .before .before .before .before .before .before .before .before .before .before .before .before .before .before .before .before .before .before .before .before .pre .0) (c .before .before .before .before .before .before .before .before .before .before .before .before .before .before .before .before .next2 .given .0 .0) (c .before .before .before .before .before .before .before .before .before .before .before .before .before .before .before .before .next2 .given .0 .1 .0) (c .before .before .before .before .before .before .before .before .before .before .path-of2 .result) (c .before .before .before .before .before .before .before .before .before .before .path-of2 .ensures) (withdrawn (c .before .before .before .before .before .before .before .before .before .before .before .before .before .before .before .before)) (memoryOf (c .before .before .before .before .before .before .before .before .before .withdraw .last .0) (c .before .before .before .before .before .before .before .before .before .withdraw .last .1 .0) (c .before .before .before .before .before .before .before .before .before .withdraw .last .1 .1 .0) (c .before .before .before .before .before .before .before .before .before .withdraw .last .1 .1 .1 .0)) (c .before .before .before .before .before .before .before .before .before .withdraw .result) (c .before .before .before .before .before .before .before .before .before .withdraw .ensures) (c .if2 .left)
 
--- src/lib.rt:69:1
 returns-5 : tie.Need-returns-5
-returns-5 c = ?
+returns-5 c = applies-faulty (c .before .before .before .before .before .before .before .before .before .args .list .now) (c .before .before .before .before .before .before .before .before .before .args .at) (memoryOf (c .before .before .before .before .before .before .before .before .before .args .lo .now) (c .before .before .before .before .before .before .before .before .before .args .hi .now) (c .before .before .before .before .before .before .before .before .before .args .up .now) (c .before .before .before .before .before .before .before .before .before .args .hop .now)) (c .before .before .before .before .before .before .before .before .before .pre .0) _ (subst (ReadsRecord _ _ true) (c .before .next3 .given .1) (c .before .before .before .read-record .ensures))
 
 pub apply-record-spec : {M : Type 1} → statement M
 apply-record-spec =

@@ -1,45 +1,39 @@
+-- The tests are those of rule 1 one after another, and then that of rule 2.
+use native.Mathlib.Omega.{arith}
+use Rattle.memory.specs.Layout.{memoryOf}
+use Rattle.ledger.proofs.Faults.{fault-slices, fault-ledger, no-fault}
 use borrow.Author.Needs.{needs}
 use Rattle.ledger.proofs.lent_fault.Statement.{statement}
 use Rattle.ledger.proofs.lent_fault.Tie as tie
-use Rattle.ledger.proofs.lent_fault.Reads as reads
-use Rattle.ledger.proofs.lent_fault.Lts as lts
-use Rattle.memory.proofs.wide.Reads as wide-reads
 
--- src/lib.rt:48:9
 returns : tie.Need-returns
-returns c = ?
+returns c = fault-slices (memoryOf (c .before .before .before .before .before .args .lo .now) (c .before .before .before .before .before .args .hi .now) (c .before .before .before .before .before .args .up .now) (c .before .before .before .before .before .args .hop .now)) (λ g. c .if1 .taken (g .los))
 
--- src/lib.rt:51:9
 returns-2 : tie.Need-returns-2
-returns-2 c = ?
+returns-2 c = fault-slices (memoryOf (c .before .before .before .before .before .before .args .lo .now) (c .before .before .before .before .before .before .args .hi .now) (c .before .before .before .before .before .before .args .up .now) (c .before .before .before .before .before .before .args .hop .now)) (λ g. c .if2 .taken (g .his))
 
--- src/lib.rt:54:9
 returns-3 : tie.Need-returns-3
-returns-3 c = ?
+returns-3 c = fault-slices (memoryOf (c .before .before .before .before .before .before .before .args .lo .now) (c .before .before .before .before .before .before .before .args .hi .now) (c .before .before .before .before .before .before .before .args .up .now) (c .before .before .before .before .before .before .before .args .hop .now)) (λ g. c .if3 .taken (g .hops))
 
--- src/lib.rt:57:9
 returns-4 : tie.Need-returns-4
-returns-4 c = ?
+returns-4 c = fault-slices (memoryOf (c .before .before .before .before .before .before .before .before .args .lo .now) (c .before .before .before .before .before .before .before .before .args .hi .now) (c .before .before .before .before .before .before .before .before .args .up .now) (c .before .before .before .before .before .before .before .before .args .hop .now)) (λ g. g .some-slot (c .if4 .taken))
 
--- src/lib.rt:60:9
 returns-5 : tie.Need-returns-5
-returns-5 c = ?
+returns-5 c = fault-slices (memoryOf (c .before .before .before .before .before .before .before .before .before .args .lo .now) (c .before .before .before .before .before .before .before .before .before .args .hi .now) (c .before .before .before .before .before .before .before .before .before .args .up .now) (c .before .before .before .before .before .before .before .before .before .args .hop .now)) (λ g. omega (arith, g .few, c .if5 .taken))
 
--- src/lib.rt:62:21
 shared-slice-read-wide : tie.Need-shared-slice-read-wide
 shared-slice-read-wide c = search needs
 
--- src/lib.rt:62:8
 wide-requires : tie.Need-wide-requires
 wide-requires c κs = search needs
 
--- src/lib.rt:63:9
 returns-6 : tie.Need-returns-6
-returns-6 c = ?
+returns-6 c = fault-ledger (memoryOf (c .before .before .before .before .before .before .before .before .before .before .before .before .args .lo .now) (c .before .before .before .before .before .before .before .before .before .before .before .before .args .hi .now) (c .before .before .before .before .before .before .before .before .before .before .before .before .args .up .now) (c .before .before .before .before .before .before .before .before .before .before .before .before .args .hop .now)) record { los = c .before .before .before .before .before .before .before .if1 .left; his = c .before .before .before .before .before .before .if2 .left; hops = c .before .before .before .before .before .if3 .left; some-slot = c .before .before .before .before .if4 .left; few = c .before .before .before .if5 .left }
+    (omega (arith, c .if6 .taken, c .before .wide .ensures))
 
--- src/lib.rt:43:1
 returns-7 : tie.Need-returns-7
-returns-7 c = ?
+returns-7 c = no-fault (memoryOf (c .before .before .before .before .before .before .before .before .before .before .before .before .args .lo .now) (c .before .before .before .before .before .before .before .before .before .before .before .before .args .hi .now) (c .before .before .before .before .before .before .before .before .before .before .before .before .args .up .now) (c .before .before .before .before .before .before .before .before .before .before .before .before .args .hop .now)) record { los = c .before .before .before .before .before .before .before .if1 .left; his = c .before .before .before .before .before .before .if2 .left; hops = c .before .before .before .before .before .if3 .left; some-slot = c .before .before .before .before .if4 .left; few = c .before .before .before .if5 .left }
+    (omega (arith, c .if6 .left, c .before .wide .ensures))
 
 pub lent-fault-spec : {M : Type 1} → statement M
 lent-fault-spec =

@@ -1,31 +1,25 @@
+-- The whole call is refused by its rules, or the path is walked.
+use native.Mathlib.Omega.{arith}
+use Rattle.memory.specs.Layout.{memoryOf}
+use Rattle.ledger.proofs.Batch.{lookup-refused, lookup-found}
 use borrow.Author.Needs.{needs}
 use Rattle.ledger.proofs.lookup.Statement.{statement}
 use Rattle.ledger.proofs.lookup.Tie as tie
-use Rattle.ledger.proofs.lookup.Reads as reads
-use Rattle.ledger.proofs.lookup.Lts as lts
-use Rattle.ledger.proofs.lent_fault.Reads as lent-fault-reads
-use Rattle.ledger.proofs.path_of.Reads as path-of-reads
-use Rattle.memory.proofs.longest_match.Reads as longest-match-reads
 
--- src/lib.rt:130:9
 lent-fault-requires : tie.Need-lent-fault-requires
 lent-fault-requires c κs = search needs
 
--- src/lib.rt:132:9
 returns : tie.Need-returns
-returns c = ?
+returns c = lookup-refused (memoryOf (c .before .before .before .before .before .before .args .lo .now) (c .before .before .before .before .before .before .args .hi .now) (c .before .before .before .before .before .before .args .up .now) (c .before .before .before .before .before .before .args .hop .now)) (c .before .before .before .before .before .before .args .address) (c .before .lent-fault .result) (c .before .lent-fault .ensures) (c .if1 .taken)
 
--- src/lib.rt:137:56
 path-of-requires : tie.Need-path-of-requires
 path-of-requires c κs = search needs
 
--- src/lib.rt:137:9
 longest-match-requires : tie.Need-longest-match-requires
-longest-match-requires c κs = ?
+longest-match-requires c κs = (c .before .before .lent-fault .ensures .fine (c .before .if1 .left) .1, omega arith)
 
--- src/lib.rt:127:1
 returns-2 : tie.Need-returns-2
-returns-2 c = ?
+returns-2 c = lookup-found (memoryOf (c .before .before .before .before .before .before .before .before .args .lo .now) (c .before .before .before .before .before .before .before .before .args .hi .now) (c .before .before .before .before .before .before .before .before .args .up .now) (c .before .before .before .before .before .before .before .before .args .hop .now)) (c .before .before .before .before .before .before .before .before .args .address) (c .before .before .before .lent-fault .result) (c .before .before .before .lent-fault .ensures) (c .before .before .if1 .left) (c .before .path-of .result) (c .before .path-of .ensures) (c .longest-match .result) (c .longest-match .ensures)
 
 pub lookup-spec : {M : Type 1} → statement M
 lookup-spec =

@@ -1,128 +1,102 @@
+-- The invariant: so many records are applied, and applying the rest to what is held now gives the whole answer (Ahead of Batch).
+use borrow.Author.Needs.{needs}
+use Prim.Native.Nat.{_-_}
+use native.Mathlib.Omega.{arith}
+use lib.ListN.{length}
+use Rattle.memory.specs.Layout.{memoryOf}
+use Rattle.ledger.proofs.Batch.{Ahead, refused-whole, refused-list, begin, fits-here, count-fits, go-on, stopped, finished}
 use Rattle.ledger.proofs.update.Statement.{statement}
 use Rattle.ledger.proofs.update.Tie as tie
-use Rattle.ledger.proofs.update.Reads as reads
-use Rattle.ledger.proofs.update.Lts as lts
-use Rattle.ledger.proofs.apply_record.Reads as apply-record-reads
-use Rattle.ledger.proofs.lent_fault.Reads as lent-fault-reads
-use Rattle.records.proofs.mask_table.Reads as mask-table-reads
 
 abbrev Inv-loop : tie.InvT-loop
-Inv-loop lo₀ hi₀ up₀ hop₀ list fault masks at₀ count₀ lo hi up hop at count = ?
+Inv-loop lo₀ hi₀ up₀ hop₀ list fault masks at₀ count₀ lo hi up hop at count = Ahead (memoryOf lo₀ hi₀ up₀ hop₀) list (memoryOf lo hi up hop) at count
 
 abbrev μ-loop : tie.MeasureT-loop
-μ-loop lo₀ hi₀ up₀ hop₀ list fault masks at₀ count₀ lo hi up hop at count = ?
+μ-loop lo₀ hi₀ up₀ hop₀ list fault masks at₀ count₀ lo hi up hop at count = length list - at
 
--- src/lib.rt:99:9
 lent-fault-requires : tie.Need-lent-fault-requires Inv-loop μ-loop
-lent-fault-requires c κs = ?
+lent-fault-requires c κs = search needs
 
--- src/lib.rt:101:9
 same-length : tie.Need-same-length Inv-loop μ-loop
-same-length c = ?
+same-length c = search needs
 
--- src/lib.rt:101:9
 same-length-2 : tie.Need-same-length-2 Inv-loop μ-loop
-same-length-2 c = ?
+same-length-2 c = search needs
 
--- src/lib.rt:101:9
 same-length-3 : tie.Need-same-length-3 Inv-loop μ-loop
-same-length-3 c = ?
+same-length-3 c = search needs
 
--- src/lib.rt:101:9
 same-length-4 : tie.Need-same-length-4 Inv-loop μ-loop
-same-length-4 c = ?
+same-length-4 c = search needs
 
--- src/lib.rt:101:9
 returns : tie.Need-returns Inv-loop μ-loop
-returns c = ?
+returns c = refused-whole (memoryOf (c .before .before .before .before .before .before .before .before .before .before .before .args .lo .now) (c .before .before .before .before .before .before .before .before .before .before .before .args .hi .now) (c .before .before .before .before .before .before .before .before .before .before .before .args .up .now) (c .before .before .before .before .before .before .before .before .before .before .before .args .hop .now)) (c .before .before .before .before .before .before .before .before .before .before .before .args .list .now) (c .before .lent-fault .result) (c .before .lent-fault .ensures) (c .if1 .taken)
 
--- src/lib.rt:107:9
 same-length-5 : tie.Need-same-length-5 Inv-loop μ-loop
-same-length-5 c = ?
+same-length-5 c = search needs
 
--- src/lib.rt:107:9
 same-length-6 : tie.Need-same-length-6 Inv-loop μ-loop
-same-length-6 c = ?
+same-length-6 c = search needs
 
--- src/lib.rt:107:9
 same-length-7 : tie.Need-same-length-7 Inv-loop μ-loop
-same-length-7 c = ?
+same-length-7 c = search needs
 
--- src/lib.rt:107:9
 same-length-8 : tie.Need-same-length-8 Inv-loop μ-loop
-same-length-8 c = ?
+same-length-8 c = search needs
 
--- src/lib.rt:107:9
 returns-2 : tie.Need-returns-2 Inv-loop μ-loop
-returns-2 c = ?
+returns-2 c = refused-list (memoryOf (c .before .before .before .before .before .before .before .before .before .before .before .before .args .lo .now) (c .before .before .before .before .before .before .before .before .before .before .before .before .args .hi .now) (c .before .before .before .before .before .before .before .before .before .before .before .before .args .up .now) (c .before .before .before .before .before .before .before .before .before .before .before .before .args .hop .now)) (c .before .before .before .before .before .before .before .before .before .before .before .before .args .list .now) (c .before .before .lent-fault .result) (c .before .before .lent-fault .ensures) (c .before .if1 .left) (c .if2 .taken)
 
--- src/lib.rt:112:17
 mask-table-requires : tie.Need-mask-table-requires Inv-loop μ-loop
-mask-table-requires c κs = ?
+mask-table-requires c κs = search needs
 
--- src/lib.rt:115:5
 loop-holds : tie.Need-loop-holds Inv-loop μ-loop
-loop-holds c = ?
+loop-holds c = begin (memoryOf (c .before .before .before .before .before .before .before .before .before .before .before .before .before .args .lo .now) (c .before .before .before .before .before .before .before .before .before .before .before .before .before .args .hi .now) (c .before .before .before .before .before .before .before .before .before .before .before .before .before .args .up .now) (c .before .before .before .before .before .before .before .before .before .before .before .before .before .args .hop .now)) (c .before .before .before .before .before .before .before .before .before .before .before .before .before .args .list .now) (c .before .before .before .lent-fault .result) (c .before .before .before .lent-fault .ensures) (c .before .before .if1 .left) (c .before .if2 .left)
 
--- src/lib.rt:116:13
 apply-record-requires : tie.Need-apply-record-requires Inv-loop μ-loop
-apply-record-requires c κs = ?
+apply-record-requires c κs = (c .before .before .before .before .before .before .loop .inv .kept .whole, record { whole = fits-here (memoryOf (c .before .before .before .before .before .before .before .before .before .before .before .before .before .before .before .before .before .before .before .before .args .lo .now) (c .before .before .before .before .before .before .before .before .before .before .before .before .before .before .before .before .before .before .before .before .args .hi .now) (c .before .before .before .before .before .before .before .before .before .before .before .before .before .before .before .before .before .before .before .before .args .up .now) (c .before .before .before .before .before .before .before .before .before .before .before .before .before .before .before .before .before .before .before .before .args .hop .now)) (c .before .before .before .before .before .before .before .before .before .before .before .before .before .before .before .before .before .before .before .before .args .list .now) (c .before .before .before .before .before .before .before .before .before .before .lent-fault .result) (c .before .before .before .before .before .before .before .before .before .before .lent-fault .ensures) (c .before .before .before .before .before .before .before .before .before .if1 .left) (c .before .before .before .before .before .before .before .before .if2 .left) (memoryOf (c .before .before .before .before .before .before .loop .lo) (c .before .before .before .before .before .before .loop .hi) (c .before .before .before .before .before .before .loop .up) (c .before .before .before .before .before .before .loop .hop)) (c .before .before .before .before .before .before .loop .at) (c .before .before .before .before .before .before .loop .count) (c .before .before .before .before .before .before .loop .inv) (c .before .before .before .before .before .loop-test .taken); table = c .before .before .before .before .before .before .before .mask-table .ensures })
 
--- src/lib.rt:118:13
-same-length-9 : tie.Need-same-length-9 Inv-loop μ-loop
-same-length-9 c = ?
-
--- src/lib.rt:118:13
-same-length-10 : tie.Need-same-length-10 Inv-loop μ-loop
-same-length-10 c = ?
-
--- src/lib.rt:118:13
-same-length-11 : tie.Need-same-length-11 Inv-loop μ-loop
-same-length-11 c = ?
-
--- src/lib.rt:118:13
-same-length-12 : tie.Need-same-length-12 Inv-loop μ-loop
-same-length-12 c = ?
-
--- src/lib.rt:118:13
 returns-3 : tie.Need-returns-3 Inv-loop μ-loop
-returns-3 c = ?
+returns-3 c = stopped (memoryOf (c .before .before .before .before .before .before .before .before .before .before .before .before .before .before .before .before .before .before .before .before .before .before .before .before .before .before .before .before .before .before .args .lo .now) (c .before .before .before .before .before .before .before .before .before .before .before .before .before .before .before .before .before .before .before .before .before .before .before .before .before .before .before .before .before .before .args .hi .now) (c .before .before .before .before .before .before .before .before .before .before .before .before .before .before .before .before .before .before .before .before .before .before .before .before .before .before .before .before .before .before .args .up .now) (c .before .before .before .before .before .before .before .before .before .before .before .before .before .before .before .before .before .before .before .before .before .before .before .before .before .before .before .before .before .before .args .hop .now)) (c .before .before .before .before .before .before .before .before .before .before .before .before .before .before .before .before .before .before .before .before .before .before .before .before .before .before .before .before .before .before .args .list .now) (c .before .before .before .before .before .before .before .before .before .before .before .before .before .before .before .before .before .before .before .before .lent-fault .result) (c .before .before .before .before .before .before .before .before .before .before .before .before .before .before .before .before .before .before .before .before .lent-fault .ensures) (c .before .before .before .before .before .before .before .before .before .before .before .before .before .before .before .before .before .before .before .if1 .left) (c .before .before .before .before .before .before .before .before .before .before .before .before .before .before .before .before .before .before .if2 .left) (memoryOf (c .before .before .before .before .before .before .before .before .before .before .before .before .before .before .before .before .loop .lo) (c .before .before .before .before .before .before .before .before .before .before .before .before .before .before .before .before .loop .hi) (c .before .before .before .before .before .before .before .before .before .before .before .before .before .before .before .before .loop .up) (c .before .before .before .before .before .before .before .before .before .before .before .before .before .before .before .before .loop .hop)) (c .before .before .before .before .before .before .before .before .before .before .before .before .before .before .before .before .loop .at) (c .before .before .before .before .before .before .before .before .before .before .before .before .before .before .before .before .loop .count) (c .before .before .before .before .before .before .before .before .before .before .before .before .before .before .before .before .loop .inv) (c .before .before .before .before .before .before .before .before .before .before .before .before .before .before .before .loop-test .taken) (memoryOf (c .before .before .before .before .before .before .before .before .before .apply-record .last .0) (c .before .before .before .before .before .before .before .before .before .apply-record .last .1 .0) (c .before .before .before .before .before .before .before .before .before .apply-record .last .1 .1 .0) (c .before .before .before .before .before .before .before .before .before .apply-record .last .1 .1 .1 .0)) (c .before .before .before .before .before .before .before .before .before .apply-record .result) (c .before .before .before .before .before .before .before .before .before .apply-record .ensures) (c .if3 .taken)
 
--- src/lib.rt:120:9
+same-length-9 : tie.Need-same-length-9 Inv-loop μ-loop
+same-length-9 c = returns-3 c .same-lengths .los
+
+same-length-10 : tie.Need-same-length-10 Inv-loop μ-loop
+same-length-10 c = returns-3 c .same-lengths .his
+
+same-length-11 : tie.Need-same-length-11 Inv-loop μ-loop
+same-length-11 c = returns-3 c .same-lengths .ups
+
+same-length-12 : tie.Need-same-length-12 Inv-loop μ-loop
+same-length-12 c = returns-3 c .same-lengths .hops
+
 add-at : tie.Need-add-at Inv-loop μ-loop
-add-at c = ?
+add-at c = omega (arith, c .before .before .before .before .before .before .before .before .before .before .before .before .before .before .before .before .before .before .before .before .before .before .before .before .before .before .before .before .before .before .good .1 .1 .1 .1 .0 .0, fits-here (memoryOf (c .before .before .before .before .before .before .before .before .before .before .before .before .before .before .before .before .before .before .before .before .before .before .before .before .before .before .before .before .before .before .args .lo .now) (c .before .before .before .before .before .before .before .before .before .before .before .before .before .before .before .before .before .before .before .before .before .before .before .before .before .before .before .before .before .before .args .hi .now) (c .before .before .before .before .before .before .before .before .before .before .before .before .before .before .before .before .before .before .before .before .before .before .before .before .before .before .before .before .before .before .args .up .now) (c .before .before .before .before .before .before .before .before .before .before .before .before .before .before .before .before .before .before .before .before .before .before .before .before .before .before .before .before .before .before .args .hop .now)) (c .before .before .before .before .before .before .before .before .before .before .before .before .before .before .before .before .before .before .before .before .before .before .before .before .before .before .before .before .before .before .args .list .now) (c .before .before .before .before .before .before .before .before .before .before .before .before .before .before .before .before .before .before .before .before .lent-fault .result) (c .before .before .before .before .before .before .before .before .before .before .before .before .before .before .before .before .before .before .before .before .lent-fault .ensures) (c .before .before .before .before .before .before .before .before .before .before .before .before .before .before .before .before .before .before .before .if1 .left) (c .before .before .before .before .before .before .before .before .before .before .before .before .before .before .before .before .before .before .if2 .left) (memoryOf (c .before .before .before .before .before .before .before .before .before .before .before .before .before .before .before .before .loop .lo) (c .before .before .before .before .before .before .before .before .before .before .before .before .before .before .before .before .loop .hi) (c .before .before .before .before .before .before .before .before .before .before .before .before .before .before .before .before .loop .up) (c .before .before .before .before .before .before .before .before .before .before .before .before .before .before .before .before .loop .hop)) (c .before .before .before .before .before .before .before .before .before .before .before .before .before .before .before .before .loop .at) (c .before .before .before .before .before .before .before .before .before .before .before .before .before .before .before .before .loop .count) (c .before .before .before .before .before .before .before .before .before .before .before .before .before .before .before .before .loop .inv) (c .before .before .before .before .before .before .before .before .before .before .before .before .before .before .before .loop-test .taken))
 
--- src/lib.rt:121:9
 add-count : tie.Need-add-count Inv-loop μ-loop
-add-count c = ?
+add-count c = omega (arith, c .before .before .before .before .before .before .before .before .before .before .before .before .before .before .before .before .before .before .before .before .before .before .before .before .before .before .before .before .before .before .good .1 .1 .1 .1 .0 .0, count-fits (memoryOf (c .before .before .before .before .before .before .before .before .before .before .before .before .before .before .before .before .before .before .before .before .before .before .before .before .before .before .before .before .before .before .args .lo .now) (c .before .before .before .before .before .before .before .before .before .before .before .before .before .before .before .before .before .before .before .before .before .before .before .before .before .before .before .before .before .before .args .hi .now) (c .before .before .before .before .before .before .before .before .before .before .before .before .before .before .before .before .before .before .before .before .before .before .before .before .before .before .before .before .before .before .args .up .now) (c .before .before .before .before .before .before .before .before .before .before .before .before .before .before .before .before .before .before .before .before .before .before .before .before .before .before .before .before .before .before .args .hop .now)) (c .before .before .before .before .before .before .before .before .before .before .before .before .before .before .before .before .before .before .before .before .before .before .before .before .before .before .before .before .before .before .args .list .now) (c .before .before .before .before .before .before .before .before .before .before .before .before .before .before .before .before .before .before .before .before .lent-fault .result) (c .before .before .before .before .before .before .before .before .before .before .before .before .before .before .before .before .before .before .before .before .lent-fault .ensures) (c .before .before .before .before .before .before .before .before .before .before .before .before .before .before .before .before .before .before .before .if1 .left) (c .before .before .before .before .before .before .before .before .before .before .before .before .before .before .before .before .before .before .if2 .left) (memoryOf (c .before .before .before .before .before .before .before .before .before .before .before .before .before .before .before .before .loop .lo) (c .before .before .before .before .before .before .before .before .before .before .before .before .before .before .before .before .loop .hi) (c .before .before .before .before .before .before .before .before .before .before .before .before .before .before .before .before .loop .up) (c .before .before .before .before .before .before .before .before .before .before .before .before .before .before .before .before .loop .hop)) (c .before .before .before .before .before .before .before .before .before .before .before .before .before .before .before .before .loop .at) (c .before .before .before .before .before .before .before .before .before .before .before .before .before .before .before .before .loop .count) (c .before .before .before .before .before .before .before .before .before .before .before .before .before .before .before .before .loop .inv), c .before .before .before .before .before .before .before .before .before .before .before .before .before .before .before .loop-test .taken)
 
--- src/lib.rt:115:5
 loop-less : tie.Need-loop-less Inv-loop μ-loop
-loop-less c = ?
+loop-less c = omega (arith, c .before .before .before .before .before .before .before .before .before .before .before .before .before .before .before .loop-test .taken)
 
--- src/lib.rt:115:5
 loop-again : tie.Need-loop-again Inv-loop μ-loop
-loop-again c = ?
+loop-again c = go-on (memoryOf (c .before .before .before .before .before .before .before .before .before .before .before .before .before .before .before .before .before .before .before .before .before .before .before .before .before .before .before .before .before .before .args .lo .now) (c .before .before .before .before .before .before .before .before .before .before .before .before .before .before .before .before .before .before .before .before .before .before .before .before .before .before .before .before .before .before .args .hi .now) (c .before .before .before .before .before .before .before .before .before .before .before .before .before .before .before .before .before .before .before .before .before .before .before .before .before .before .before .before .before .before .args .up .now) (c .before .before .before .before .before .before .before .before .before .before .before .before .before .before .before .before .before .before .before .before .before .before .before .before .before .before .before .before .before .before .args .hop .now)) (c .before .before .before .before .before .before .before .before .before .before .before .before .before .before .before .before .before .before .before .before .before .before .before .before .before .before .before .before .before .before .args .list .now) (c .before .before .before .before .before .before .before .before .before .before .before .before .before .before .before .before .before .before .before .before .lent-fault .result) (c .before .before .before .before .before .before .before .before .before .before .before .before .before .before .before .before .before .before .before .before .lent-fault .ensures) (c .before .before .before .before .before .before .before .before .before .before .before .before .before .before .before .before .before .before .before .if1 .left) (c .before .before .before .before .before .before .before .before .before .before .before .before .before .before .before .before .before .before .if2 .left) (memoryOf (c .before .before .before .before .before .before .before .before .before .before .before .before .before .before .before .before .loop .lo) (c .before .before .before .before .before .before .before .before .before .before .before .before .before .before .before .before .loop .hi) (c .before .before .before .before .before .before .before .before .before .before .before .before .before .before .before .before .loop .up) (c .before .before .before .before .before .before .before .before .before .before .before .before .before .before .before .before .loop .hop)) (c .before .before .before .before .before .before .before .before .before .before .before .before .before .before .before .before .loop .at) (c .before .before .before .before .before .before .before .before .before .before .before .before .before .before .before .before .loop .count) (c .before .before .before .before .before .before .before .before .before .before .before .before .before .before .before .before .loop .inv) (c .before .before .before .before .before .before .before .before .before .before .before .before .before .before .before .loop-test .taken) (memoryOf (c .before .before .before .before .before .before .before .before .before .apply-record .last .0) (c .before .before .before .before .before .before .before .before .before .apply-record .last .1 .0) (c .before .before .before .before .before .before .before .before .before .apply-record .last .1 .1 .0) (c .before .before .before .before .before .before .before .before .before .apply-record .last .1 .1 .1 .0)) (c .before .before .before .before .before .before .before .before .before .apply-record .result) (c .before .before .before .before .before .before .before .before .before .apply-record .ensures) (c .if3 .left)
 
--- src/lib.rt:96:1
-same-length-13 : tie.Need-same-length-13 Inv-loop μ-loop
-same-length-13 c = ?
-
--- src/lib.rt:96:1
-same-length-14 : tie.Need-same-length-14 Inv-loop μ-loop
-same-length-14 c = ?
-
--- src/lib.rt:96:1
-same-length-15 : tie.Need-same-length-15 Inv-loop μ-loop
-same-length-15 c = ?
-
--- src/lib.rt:96:1
-same-length-16 : tie.Need-same-length-16 Inv-loop μ-loop
-same-length-16 c = ?
-
--- src/lib.rt:96:1
 returns-4 : tie.Need-returns-4 Inv-loop μ-loop
-returns-4 c = ?
+returns-4 c = finished (memoryOf (c .before .before .before .before .before .before .before .before .before .before .before .before .before .before .before .args .lo .now) (c .before .before .before .before .before .before .before .before .before .before .before .before .before .before .before .args .hi .now) (c .before .before .before .before .before .before .before .before .before .before .before .before .before .before .before .args .up .now) (c .before .before .before .before .before .before .before .before .before .before .before .before .before .before .before .args .hop .now)) (c .before .before .before .before .before .before .before .before .before .before .before .before .before .before .before .args .list .now) (c .before .before .before .before .before .lent-fault .result) (c .before .before .before .before .before .lent-fault .ensures) (c .before .before .before .before .if1 .left) (c .before .before .before .if2 .left) (memoryOf (c .before .loop .lo) (c .before .loop .hi) (c .before .loop .up) (c .before .loop .hop)) (c .before .loop .at) (c .before .loop .count) (c .before .loop .inv) (c .loop-test .left)
+
+same-length-13 : tie.Need-same-length-13 Inv-loop μ-loop
+same-length-13 c = returns-4 c .same-lengths .los
+
+same-length-14 : tie.Need-same-length-14 Inv-loop μ-loop
+same-length-14 c = returns-4 c .same-lengths .his
+
+same-length-15 : tie.Need-same-length-15 Inv-loop μ-loop
+same-length-15 c = returns-4 c .same-lengths .ups
+
+same-length-16 : tie.Need-same-length-16 Inv-loop μ-loop
+same-length-16 c = returns-4 c .same-lengths .hops
 
 pub update-spec : {M : Type 1} → statement M
 update-spec =
