@@ -1,6 +1,5 @@
 -- A list applied record by record: at each record, applying the rest to what is held now gives the whole answer.
 use mathlib.Core.Path.{_≡_, refl, sym, ap, subst, _∙_}
-use mathlib.Core.Logic.{inl, inr}
 use mathlib.Core.Bool.{Bool, true, false, not, cond}
 use mathlib.Core.List.{List, [], _∷_, map}
 use mathlib.Core.Option.{Option, none, some}
@@ -11,10 +10,9 @@ use lib.Seq.{drop-drop, take-all}
 use borrow.Author.Tests.{eq-eqb, ne-eqb}
 use Rattle.theory.specs.Bits.{bitsOf, prefixOf}
 use Rattle.theory.specs.Ledger.{Ledger, isHeld, longest}
-use Rattle.theory.proofs.Hops.{by-test, never}
-use Rattle.theory.proofs.Longest.{none-some}
+use Rattle.theory.proofs.Hops.{never}
 use Rattle.theory.proofs.Address.{bits-length}
-use Rattle.rules.specs.Numbers.{ipv4, width, recordBytes, noRoute, badSlices, noLedger, badListLength}
+use Rattle.rules.specs.Numbers.{ipv4, width, recordBytes, noRoute, badListLength}
 use Rattle.rules.specs.Records.{update, Reading, read, firstFault, _refusedBy_, pieces, recordsOf, wholeRecords}
 use Rattle.rules.specs.Plain.{Outcome, taken, refused, apply, Applied, oneMore, next, applyAll, complete, updated}
 use Rattle.rules.specs.Lookup.{hopOf}
@@ -29,7 +27,7 @@ use Rattle.ledger.specs.declared.Updated.{Updated}
 use Rattle.ledger.specs.declared.Updated.the-variants.{Complete, Refused}
 use Rattle.ledger.specs.Promise.{badLent, lentFault, afterFault, updateOf, Report, reportOf, reported, wholeFault, SameLengths, Updates, foundAfter, LooksUp}
 use Rattle.ledger.specs.Steps.{IsPathOf, FaultOf, AppliesOne}
-use Rattle.ledger.proofs.Faults.{GoodLent, good-of, of-good, path-prefix}
+use Rattle.ledger.proofs.Faults.{GoodLent, of-good, let-through, holds-of, path-prefix}
 
 abbrev w : ℕ
 w = width ipv4
@@ -55,23 +53,15 @@ pub record Ahead (a : Memory) (list : List ℕ) (m : Memory) (at count : ℕ) : 
 kept-fault : (a m : Memory) → Whole a → Kept a m → lentFault a ≡ none → lentFault m ≡ none
 unfolding lentFault
 kept-fault a m whole k e =
-    elim (by-test (badLent a)) [
-      | inl b ↦ let f : some badSlices ≡ none = rw b at e in none-some refl f
-      | inr b ↦
-          elim (by-test (holdsLedger (a .tree))) [
-            | inl h ↦
-                let good = good-of a b in
-                let good' : GoodLent m = record {
-                  los = k .whole .shaped .los;
-                  his = k .whole .shaped .his;
-                  hops = k .whole .hops;
-                  some-slot = λ z. good .some-slot (sym (k .same-slots) ∙ z);
-                  few = omega (arith, good .few, k .same-slots);
-                } in
-                rw (of-good m good', k .ledger h)
-            | inr h ↦ let f : some noLedger ≡ none = rw (b, h) at e in none-some refl f
-          ]
-    ]
+    let good = let-through a e in
+    let still : GoodLent m = record {
+      los = k .whole .shaped .los;
+      his = k .whole .shaped .his;
+      hops = k .whole .hops;
+      some-slot = λ z. good .some-slot (sym (k .same-slots) ∙ z);
+      few = omega (arith, good .few, k .same-slots);
+    } in
+    rw (of-good m still, k .ledger (holds-of a e))
 
 kept-lengths : (a m : Memory) → Whole a → Kept a m → SameLengths a m
 kept-lengths a m whole k = record {
@@ -87,15 +77,7 @@ same-self m = record { los = refl; his = refl; ups = refl; hops = refl }
 -- a call that is let through is not refused whole unless its list is
 no-whole-fault : (m : Memory) (list : List ℕ) → lentFault m ≡ none → wholeRecords ipv4 list ≡ true → wholeFault m list ≡ none
 unfolding lentFault wholeFault
-no-whole-fault m list e q =
-    elim (by-test (badLent m)) [
-      | inl b ↦ let f : some badSlices ≡ none = rw b at e in none-some refl f
-      | inr b ↦
-          elim (by-test (holdsLedger (m .tree))) [
-            | inl h ↦ rw (b, h, q)
-            | inr h ↦ let f : some noLedger ≡ none = rw (b, h) at e in none-some refl f
-          ]
-    ]
+no-whole-fault m list e q = rw (of-good m (let-through m e), holds-of m e, q)
 
 -- THE WHOLE CALL REFUSED: nothing has changed
 module _ (m : Memory) (list : List ℕ) (r : ℕ) (fault : FaultOf m r) where

@@ -12,6 +12,7 @@ use lib.Pow.{pow-add}
 use borrow.Author.Tests.{eqb-true, eqb-false, ltb-false, eq-eqb, ne-eqb, lt-ltb, le-ltb, le-leb, lt-leb, not-false}
 use Rattle.theory.specs.Bits.{bitsOf, prefixOf}
 use Rattle.theory.proofs.Hops.{by-test, never, and-both}
+use Rattle.theory.proofs.Longest.{none-some}
 use Rattle.theory.proofs.Walk.{prefix-bits}
 use Rattle.rules.specs.Numbers.{ipv4, width, mostSlots, badSlices, noLedger}
 use Rattle.rules.proofs.Plain.{or-none}
@@ -79,6 +80,23 @@ module _ (m : Memory) where
     fine = λ e. (rw (of-good g, le-leb (getD (m .tree .up) 0 0) n l), whole-of g);
     faulty = λ other. absurd (other refl);
   }
+
+-- what the whole call's rules let through
+pub let-through : (m : Memory) → lentFault m ≡ none → GoodLent m
+unfolding lentFault
+let-through m e =
+    elim (by-test (badLent m)) [
+      | inl b ↦ let f : some badSlices ≡ none = rw b at e in none-some refl f
+      | inr b ↦ good-of m b
+    ]
+
+pub holds-of : (m : Memory) → lentFault m ≡ none → holdsLedger (m .tree) ≡ true
+unfolding lentFault
+holds-of m e =
+    elim (by-test (holdsLedger (m .tree))) [
+      | inl h ↦ h
+      | inr h ↦ let f : some noLedger ≡ none = rw (of-good m (let-through m e), h) at e in none-some refl f
+    ]
 
 -- AN ADDRESS AS A PATH: shifted to the path's front, its bits stand first
 pub path-bits : (x : ℕ) → IsPathOf x (record { high = x * 4294967296; low = 0 })

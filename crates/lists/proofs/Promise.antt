@@ -17,7 +17,7 @@ pub one-answer : {list : List ℕ} {address : ℕ} {r s : Found} → LooksUpList
 one-answer p q = p .answer ∙ sym (q .answer)
 
 -- .. and are the same
-same-answer : (r s : Found) → answerOf r ≡ answerOf s → r ≡ s
+pub same-answer : (r s : Found) → answerOf r ≡ answerOf s → r ≡ s
 same-answer (Hop h) (Hop k) e = ap (λ a. Hop (a .hop)) e
 same-answer (Hop h) (Refused x p) e = none-some (ap (λ a. a .refusal) e) refl
 same-answer (Refused x p) (Hop h) e = none-some refl (ap (λ a. a .refusal) e)

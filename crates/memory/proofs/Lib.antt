@@ -2,3 +2,5 @@ pub mod Find
 pub mod Ledger
 pub mod Bare
 pub mod Room
+pub mod Tidy
+pub mod Zeros

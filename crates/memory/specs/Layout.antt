@@ -8,7 +8,7 @@ use mathlib.Core.List.{List, [], _∷_, reverse}
 use mathlib.Core.Option.{Option, none, some}
 use Prim.Native.Nat.{ℕ, suc, _+_, _*_, _-_, _≤_, _<_}
 use lib.Dec.{ltb, leb, eqb}
-use lib.ListN.{length, getD}
+use lib.ListN.{length, getD, replicate}
 use Rattle.theory.specs.Bits.{Bits}
 use Rattle.theory.specs.Ledger.{Ledger}
 use Rattle.rules.specs.Numbers.{lowestHop, highestHop}
@@ -82,3 +82,10 @@ ledgerOf w m s = cond (leb (length s) w) (hopAt m (find (m .tree) (reverse s))) 
 -- lies behind the slots.
 unfoldable pub holdsLedger : Tree → Bool
 holdsLedger t = leb (getD (t .up) 0 0) (slots t)
+
+-- zeroed memory of n slots
+abbrev pub zeros : ℕ → List ℕ
+zeros n = replicate n 0
+
+unfoldable pub zeroed : ℕ → Memory
+zeroed n = memoryOf (zeros n) (zeros n) (zeros n) (zeros n)

@@ -2,7 +2,7 @@
 -- on; so the strings with slots are exactly those that the ledger needs (memory/proofs/Tidy), and the memory is fixed by its
 -- ledger but for which slot a string lies in and the chain of free slots.
 use mathlib.Core.Path.{_≡_}
-use mathlib.Core.Logic.{_⊎_}
+use mathlib.Core.Logic.{_⊎_, _↔_}
 use mathlib.Core.Bool.{Bool, true, false, not, _&&_, _||_}
 use mathlib.Core.Option.{none}
 use Prim.Native.Nat.{ℕ, _-_, _≤_, _<_}
@@ -41,3 +41,13 @@ pub record TidyBut (w : ℕ) (m : Memory) (tip : ℕ) : Type 0 where
 
 abbrev pub Tidy : ℕ → Memory → Type 0
 Tidy w m = TidyBut w m 0
+
+-- THE SAME MEMORY BUT FOR SLOTS AND HINTS: both are tidy, the same strings have slots, and each string's slot has the same number
+-- for its hop. What is left open is which slot a string lies in, and `lo` of free slots and `up` of slot 0, the chain.
+pub record SameButSlots (w : ℕ) (a b : Memory) : Type 0 where
+  pub tidy-a : Tidy w a
+  pub tidy-b : Tidy w b
+  pub same-strings : (s : Bits) → length s ≤ w → (find (a .tree) s < slots (a .tree)) ↔ (find (b .tree) s < slots (b .tree))
+  pub same-hops : (s : Bits) → length s ≤ w → getD (a .hop) (find (a .tree) s) 0 ≡ getD (b .hop) (find (b .tree) s) 0
+  -- and no longer string has a slot in either
+  pub no-longer : (s : Bits) → w < length s → (find (a .tree) s ≡ slots (a .tree)) × (find (b .tree) s ≡ slots (b .tree))
