@@ -9,13 +9,14 @@ use native.Mathlib.Omega.{arith}
 use lib.ListN.{length, getD}
 use Rattle.theory.specs.Bits.{Bits}
 use Rattle.memory.specs.Layout.{Tree, Memory, slots, Shaped, Whole, link, mark, child, find, readHop, hopAt, ledgerOf}
-use Rattle.memory.specs.Tidy.{bare, Free, Used, TidyBut, Tidy}
-use Rattle.memory.proofs.Find.{Counts, same-or, not-none, child-counts, counts-of, none-of, mark-parent, mark-side, mark-positive, one-string}
+use Rattle.memory.specs.Tidy.{bare, Chained, Free, Used, TidyBut, Tidy}
+use Rattle.memory.proofs.Find.{Counts, same-or, not-none, child-counts, counts-of, parent-below, none-of, mark-parent, mark-side, mark-positive, one-string}
 use Rattle.memory.proofs.Ledger.{hop-low}
+use Rattle.memory.proofs.Chain.{chain-freed}
 use Rattle.memory.proofs.Bare.{bare-hop, bare-leaf}
 use Rattle.editing.specs.Edits.{Kept, Dropped}
 use Rattle.editing.proofs.Moving.{side-or, child-same, child-gone, Moved, stays, comes, goes, Edit, moved, ledger-kept}
-use Rattle.editing.proofs.Hanging.{busy-kept, marked-before}
+use Rattle.editing.proofs.Hanging.{string-not-free, busy-kept, marked-before}
 
 module _ (w : ℕ) (m m' : Memory) (p : ℕ) (b : Bool) (k : ℕ) (s0 : Bits) (whole : Whole m) (dropped : Dropped m m' p b k)
     (above : find (m .tree) s0 ≡ p) (there : find (m .tree) (b ∷ s0) ≡ k) (slot-k : k < slots (m .tree)) (short : length (b ∷ s0) ≤ w)
@@ -140,6 +141,17 @@ module _ (w : ℕ) (m m' : Memory) (p : ℕ) (b : Bool) (k : ℕ) (s0 : Bits) (w
         not-used (inl z) e = omega (arith, was-counted .positive)
         not-used (inr l) e = omega (arith, ap (λ x. getD (m' .tree .up) x 0) e, dropped .no-mark)
 
+    above-not-free : (j : ℕ) → 0 < j → getD (m .tree .up) j 0 ≡ 0 → j ≡ p → ⊥
+    above-not-free = string-not-free (m .tree) s0 p above (parent-below (m .tree) (whole .shaped) was-counted)
+
+    dropped-chained : Chained (m' .tree)
+    dropped-chained =
+        chain-freed (m .tree) (m' .tree) same-slots k (was-counted .positive) slot-k
+        (omega (arith, was-counted .marked, mark-positive p b)) (dropped .head) (dropped .no-mark) (dropped .next)
+        (λ j pos not-k is-free. (dropped .other-marks j pos not-k, dropped .other-links j false not-k (λ e q. above-not-free j pos is-free e)))
+        (λ j pos not-k is-free. sym (dropped .other-marks j pos not-k) ∙ is-free)
+        (tidy .chained)
+
     pub dropped-tidy : TidyBut w m' p
     dropped-tidy = record {
       each-slot = dropped-slot;
@@ -149,6 +161,7 @@ module _ (w : ℕ) (m m' : Memory) (p : ℕ) (b : Bool) (k : ℕ) (s0 : Bits) (w
             | inl at-k ↦ ap (λ x. getD (m' .hop) x 0) at-k ∙ dropped .no-hop
             | inr not-k ↦ dropped .other-hops j not-k ∙ tidy .plain j (ap readHop (sym (dropped .other-hops j not-k)) ∙ e)
           ];
+      chained = dropped-chained;
     }
 
 -- a tip that is not bare, or that is slot 0, is no exception
@@ -162,4 +175,5 @@ tip-done w m tip s there short busy tidy = record {
       ];
   neat = tidy .neat;
   plain = tidy .plain;
+  chained = tidy .chained;
 }

@@ -7,15 +7,17 @@ use mathlib.Core.Option.{none}
 use Prim.Native.Nat.{ℕ, zero, suc, _-_, _≤_, _<_}
 use native.Mathlib.Omega.{arith}
 use lib.ListN.{length, getD}
+use borrow.Author.Tests.{eq-eqb}
 use Rattle.theory.specs.Bits.{Bits}
 use Rattle.theory.specs.Ledger.{isHeld}
 use Rattle.theory.proofs.Hops.{never}
 use Rattle.memory.specs.Layout.{Tree, Memory, slots, Shaped, Whole, link, mark, child, find, readHop, hopAt, ledgerOf}
-use Rattle.memory.specs.Tidy.{bare, Free, Used, TidyBut}
+use Rattle.memory.specs.Tidy.{bare, headOf, Chained, Free, Used, TidyBut}
 use Rattle.memory.proofs.Find.{Counts, same-or, not-none, child-counts, counts-of, none-of, none-below, mark-parent, mark-side, mark-positive, one-string}
 use Rattle.memory.proofs.Ledger.{hop-low}
+use Rattle.memory.proofs.Chain.{chained-head, chain-taken}
 use Rattle.memory.proofs.Bare.{bare-hop, bare-leaf, busy-child, busy-hop, busy-why}
-use Rattle.editing.specs.Spare.{rises, idle, idleWith}
+use Rattle.editing.specs.Spare.{rises, idle, idleWith, Hinted}
 use Rattle.editing.specs.Edits.{Kept, Hung}
 use Rattle.editing.proofs.Rising.{rises-string}
 use Rattle.editing.proofs.Moving.{side-or, child-same, child-gone, Moved, stays, comes, goes, Edit, moved, ledger-kept}
@@ -33,6 +35,21 @@ idle-free w m tip k shaped tidy p l other h =
     elim (tidy .each-slot k p l other) [
       | inl free ↦ free
       | inr used ↦ never (idle-bare w m k shaped l h (used .string) (used .short) (used .there)) (used .busy)
+    ]
+
+-- a string's slot is the first one or has a mark
+pub string-marked : (t : Tree) (s : Bits) → find t s < slots t → (find t s ≡ 0) ⊎ (0 < getD (t .up) (find t s) 0)
+string-marked t [] l = inl refl
+string-marked t (c ∷ s) l =
+    let n = counts-of t c (find t s) l in
+    inr (omega (arith, n .marked, mark-positive (find t s) c))
+
+-- so it is not free
+pub string-not-free : (t : Tree) (s : Bits) (p : ℕ) → find t s ≡ p → p < slots t → (j : ℕ) → 0 < j → getD (t .up) j 0 ≡ 0 → j ≡ p → ⊥
+string-not-free t s p there l j pos free e =
+    elim (string-marked t s (omega arith)) [
+      | inl first ↦ omega arith
+      | inr marked ↦ omega (arith, ap (λ x. getD (t .up) x 0) (e ∙ sym there))
     ]
 
 -- a slot that no edit touched is as busy as before
@@ -56,7 +73,8 @@ marked-before t t' k other-marks j not-k (inr l) =
 
 module _ (w : ℕ) (m m' : Memory) (p : ℕ) (b : Bool) (k : ℕ) (s0 : Bits) (whole : Whole m) (hung : Hung m m' p b k)
     (there : find (m .tree) s0 ≡ p) (slot-p : p < slots (m .tree)) (short : length s0 < w) (no-child : child (m .tree) b p ≡ slots (m .tree))
-    (positive : 0 < k) (slot-k : k < slots (m .tree)) (other : k ≡ p → ⊥) (unused : idle w m k ≡ true) where
+    (positive : 0 < k) (slot-k : k < slots (m .tree)) (other : k ≡ p → ⊥) (unused : idle w m k ≡ true)
+    (hinted : Hinted (m .tree) p → k ≡ headOf (m .tree)) where
   same-slots : slots (m' .tree) ≡ slots (m .tree)
   same-slots = hung .kept .same-slots
 
@@ -200,6 +218,25 @@ module _ (w : ℕ) (m m' : Memory) (p : ℕ) (b : Bool) (k : ℕ) (s0 : Bits) (w
               ]
         ]
 
+    not-p : (j : ℕ) → 0 < j → getD (m .tree .up) j 0 ≡ 0 → j ≡ p → ⊥
+    not-p = string-not-free (m .tree) s0 p there slot-p
+
+    -- the chain's first slot is free, as this one is, so it was taken
+    was-first : headOf (m .tree) ≡ k
+    was-first =
+        let first = chained-head (m .tree) (tidy .chained) k positive slot-k (free .no-mark) in
+        sym (hinted record { slot = first .1; other = not-p (headOf (m .tree)) (first .0) (first .2); free = first .2 })
+
+    hung-chained : Chained (m' .tree)
+    hung-chained =
+        chain-taken (m .tree) (m' .tree) same-slots k was-first slot-k
+        (hung .head ∙ rw (eq-eqb (headOf (m .tree)) k was-first))
+        (λ j pos not-k is-free. (hung .other-marks j pos not-k, hung .other-links j false not-k (λ e q. not-p j pos is-free e)))
+        (λ j pos is-free.
+          let not-k : j ≡ k → ⊥ = λ e. omega (arith, ap (λ x. getD (m' .tree .up) x 0) e, hung .new-mark, mark-positive p b) in
+          (not-k, sym (hung .other-marks j pos not-k) ∙ is-free))
+        (tidy .chained)
+
     pub hung-tidy : TidyBut w m' k
     hung-tidy = record {
       each-slot = hung-slot;
@@ -209,4 +246,5 @@ module _ (w : ℕ) (m m' : Memory) (p : ℕ) (b : Bool) (k : ℕ) (s0 : Bits) (w
             | inl at-k ↦ ap (λ x. getD (m' .hop) x 0) at-k ∙ hung .no-hop
             | inr not-k ↦ hung .other-hops j not-k ∙ tidy .plain j (ap readHop (sym (hung .other-hops j not-k)) ∙ e)
           ];
+      chained = hung-chained;
     }

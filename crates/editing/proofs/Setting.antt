@@ -87,6 +87,7 @@ module _ (w : ℕ) (m : Memory) (k v : ℕ) (whole : Whole m) (slot-k : k < slot
                 stored ∙ canonical (ap readHop (sym stored) ∙ e)
             | inr other ↦ getD-set-other (m .hop) k j v 0 other ∙ tidy .plain j (sym (hop-elsewhere j other) ∙ e)
           ];
+      chained = tidy .chained;
     }
 
     pub rehop-done : (h : ℕ) → readHop v ≡ some h → TidyBut w m k → Tidy w (rehop m k v)
@@ -100,4 +101,5 @@ tidy-but w m k tidy = record {
   each-slot = λ j pos l other. tidy .each-slot j pos l (λ e. omega arith);
   neat = tidy .neat;
   plain = tidy .plain;
+  chained = tidy .chained;
 }

@@ -5,12 +5,14 @@ use mathlib.Core.Bool.{Bool, true, false}
 use mathlib.Core.List.{List}
 use Prim.Native.Nat.{ℕ, _≤_, _<_}
 use native.Mathlib.Omega.{arith}
-use lib.Dec.{leb}
+use lib.Dec.{eqb, ltb, leb}
 use lib.ListN.{length, getD, set, length-set}
 use lib.Seq.{getD-set-same, getD-set-other}
-use borrow.Author.Tests.{leb-true, le-leb}
+use borrow.Author.Tests.{ltb-true, leb-true, le-leb, eq-eqb, ne-eqb, lt-ltb, le-ltb}
+use Rattle.theory.proofs.Hops.{by-test}
 use Rattle.memory.specs.Layout.{Memory, memoryOf, slots, layoutSlots, Shaped, Whole, link, linkIn, mark, holdsLedger}
-use Rattle.editing.specs.Edits.{Kept, Hung, Dropped, LinkSet}
+use Rattle.memory.specs.Tidy.{firstFree, nextFree, headOf}
+use Rattle.editing.specs.Edits.{headAfter, Kept, Hung, Dropped, LinkSet}
 
 module _ (lo hi : List ℕ) (p v : ℕ) where
   pub link-set-hi : (b : Bool) → b ≡ true → p < length hi → LinkSet lo hi p b v lo (set hi p v)
@@ -38,6 +40,29 @@ module _ (lo hi : List ℕ) (p v : ℕ) where
       elsewhere x true apart = refl
       elsewhere x false apart = getD-set-other lo p x v 0 (λ q. apart q refl)
   link-set-lo true e l = absurd (let z : _≡_ {A = ℕ} 0 1 = cc in omega arith)
+
+-- the head after a slot is taken, by the tests
+module _ (head slot next count : ℕ) where
+  pub head-stays : (firstFree head ≡ slot → ⊥) → headAfter head slot next count ≡ head
+  head-stays other = rw (ne-eqb (firstFree head) slot other)
+
+  pub head-on : firstFree head ≡ slot → nextFree next slot < count → headAfter head slot next count ≡ nextFree next slot
+  head-on e l = rw (eq-eqb (firstFree head) slot e, lt-ltb (nextFree next slot) count l)
+
+  pub head-ends : firstFree head ≡ slot → count ≤ nextFree next slot → headAfter head slot next count ≡ count
+  head-ends e l = rw (eq-eqb (firstFree head) slot e, le-ltb (nextFree next slot) count l)
+
+-- the head never goes behind the end of the slots
+pub head-bound : (head slot next count : ℕ) → head ≤ count → headAfter head slot next count ≤ count
+head-bound head slot next count l =
+    elim (by-test (eqb (firstFree head) slot)) [
+      | inl e ↦
+          elim (by-test (ltb (nextFree next slot) count)) [
+            | inl q ↦ rw (e, q) (omega (arith, ltb-true (nextFree next slot) count q))
+            | inr q ↦ rw (e, q) (omega arith)
+          ]
+      | inr e ↦ rw e l
+    ]
 
 -- Slot k gets z for `lo`, 0 for `hi`, u for its mark and 0 for its hop; the link of slot p behind bit b gets v, and the chain's
 -- head gets x.
@@ -97,8 +122,8 @@ module _ (lo hi up hop : List ℕ) (p : ℕ) (b : Bool) (k z x u v : ℕ) (lo' h
   other-links : (j : ℕ) (c : Bool) → (j ≡ k → ⊥) → (j ≡ p → c ≡ b → ⊥) → linkIn lo' hi' c j ≡ linkIn lo hi c j
   other-links j c not-k apart = stored .set-elsewhere j c apart ∙ before-sets j c not-k
 
-  pub stores-hang : z ≡ 0 → u ≡ mark p b → v ≡ k → Hung before after p b k
-  stores-hang none marked linked = record {
+  pub stores-hang : z ≡ 0 → u ≡ mark p b → v ≡ k → x ≡ headAfter (getD up 0 0) k (getD lo k 0) (length up) → Hung before after p b k
+  stores-hang none marked linked onwards = record {
     kept = kept;
     new-link = stored .set-there ∙ linked;
     no-links = no-links;
@@ -107,14 +132,15 @@ module _ (lo hi up hop : List ℕ) (p : ℕ) (b : Bool) (k z x u v : ℕ) (lo' h
     other-marks = other-marks;
     no-hop = hop-there;
     other-hops = λ j not-k. getD-set-other hop k j 0 0 not-k;
+    head = head-there ∙ onwards;
   }
     where
       no-links : (c : Bool) → linkIn lo' hi' c k ≡ 0
       no-links true = hi-there
       no-links false = lo-there ∙ none
 
-  pub stores-drop : u ≡ 0 → v ≡ 0 → Dropped before after p b k
-  stores-drop unmarked unlinked = record {
+  pub stores-drop : u ≡ 0 → v ≡ 0 → x ≡ k → z ≡ headOf (before .tree) → Dropped before after p b k
+  stores-drop unmarked unlinked first next = record {
     kept = kept;
     no-link = stored .set-there ∙ unlinked;
     other-links = other-links;
@@ -123,4 +149,6 @@ module _ (lo hi up hop : List ℕ) (p : ℕ) (b : Bool) (k z x u v : ℕ) (lo' h
     no-hi = hi-there;
     no-hop = hop-there;
     other-hops = λ j not-k. getD-set-other hop k j 0 0 not-k;
+    head = head-there ∙ first;
+    next = lo-there ∙ next;
   }

@@ -87,15 +87,15 @@ module _ (w : ℕ) (m : Memory) (f : ℕ → Bool) (d slot : ℕ) (on : OnPath w
         kept = hung .kept;
         same-ledger =
             hung-ledger w m m' slot right free (front f d) whole hung (sym (on .there)) (on .below) short no-child
-            (spared .positive) (spared .slot) (spared .other) (spared .unused);
+            (spared .positive) (spared .slot) (spared .other) (spared .unused) (spared .hinted);
         tidied =
             hung-tidy w m m' slot right free (front f d) whole hung (sym (on .there)) (on .below) short no-child
-            (spared .positive) (spared .slot) (spared .other) (spared .unused);
+            (spared .positive) (spared .slot) (spared .other) (spared .unused) (spared .hinted);
       };
       there = rw add-one
           (sym (ap (λ b. find (m' .tree) (b ∷ front f d)) (sym turn)
           ∙ hung-there w m m' slot right free (front f d) whole hung (sym (on .there)) (on .below) short no-child
-          (spared .positive) (spared .slot) (spared .other) (spared .unused)));
+          (spared .positive) (spared .slot) (spared .other) (spared .unused) (spared .hinted)));
       below = spared .slot;
     }
 

@@ -1,10 +1,17 @@
 -- The two edits of the tree, place by place: a slot is hung below another, and a slot is taken out.
 use mathlib.Core.Path.{_≡_}
-use mathlib.Core.Bool.{Bool, true}
+use mathlib.Core.Bool.{Bool, true, false, cond}
 use mathlib.Core.List.{List}
 use Prim.Native.Nat.{ℕ, _<_}
+use lib.Dec.{eqb, ltb}
 use lib.ListN.{length, getD, set}
 use Rattle.memory.specs.Layout.{Memory, slots, Whole, link, linkIn, mark, holdsLedger}
+use Rattle.memory.specs.Tidy.{firstFree, nextFree, headOf}
+
+-- the chain's head once a slot is taken: if that was the first, the one behind it, or the end of the slots
+abbrev pub headAfter : ℕ → ℕ → ℕ → ℕ → ℕ
+headAfter head slot next count =
+    cond (eqb (firstFree head) slot) (cond (ltb (nextFree next slot) count) (nextFree next slot) count) head
 
 -- what both keep: the number of slots, and that the memory holds a ledger
 pub record Kept (m m' : Memory) : Type 0 where
@@ -22,8 +29,9 @@ pub record Hung (m m' : Memory) (p : ℕ) (b : Bool) (k : ℕ) : Type 0 where
   pub other-marks : (x : ℕ) → 0 < x → (x ≡ k → ⊥) → getD (m' .tree .up) x 0 ≡ getD (m .tree .up) x 0
   pub no-hop : getD (m' .hop) k 0 ≡ 0
   pub other-hops : (x : ℕ) → (x ≡ k → ⊥) → getD (m' .hop) x 0 ≡ getD (m .hop) x 0
+  pub head : getD (m' .tree .up) 0 0 ≡ headAfter (getD (m .tree .up) 0 0) k (getD (m .tree .lo) k 0) (slots (m .tree))
 
--- slot k, which was the child of slot p behind bit b, is free
+-- slot k, which was the child of slot p behind bit b, is free, and the first of the chain
 pub record Dropped (m m' : Memory) (p : ℕ) (b : Bool) (k : ℕ) : Type 0 where
   pub kept : Kept m m'
   pub no-link : link (m' .tree) b p ≡ 0
@@ -33,6 +41,8 @@ pub record Dropped (m m' : Memory) (p : ℕ) (b : Bool) (k : ℕ) : Type 0 where
   pub no-hi : link (m' .tree) true k ≡ 0
   pub no-hop : getD (m' .hop) k 0 ≡ 0
   pub other-hops : (x : ℕ) → (x ≡ k → ⊥) → getD (m' .hop) x 0 ≡ getD (m .hop) x 0
+  pub head : getD (m' .tree .up) 0 0 ≡ k
+  pub next : link (m' .tree) false k ≡ headOf (m .tree)
 
 -- slot k has another number for its hop
 abbrev pub rehop : Memory → ℕ → ℕ → Memory

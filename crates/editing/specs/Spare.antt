@@ -7,7 +7,7 @@ use Prim.Native.Nat.{ℕ, zero, suc, _-_, _/_, _%_, _<_}
 use lib.Dec.{ltb, eqb}
 use lib.ListN.{getD}
 use Rattle.memory.specs.Layout.{Tree, Memory, slots, link}
-use Rattle.memory.specs.Tidy.{bare}
+use Rattle.memory.specs.Tidy.{bare, headOf}
 
 -- the parent and the side that a slot's mark names
 abbrev pub parentOf : Tree → ℕ → ℕ
@@ -33,11 +33,18 @@ unfoldable pub idle : ℕ → Memory → ℕ → Bool
 idle w m k = idleWith m k (rises (m .tree) w k)
 
 -- a slot that may be taken while an update works on slot `tip`: one there is, or none
+-- (where the chain's first slot serves, it is taken: nothing is searched for)
+pub record Hinted (t : Tree) (tip : ℕ) : Type 0 where
+  pub slot : headOf t < slots t
+  pub other : headOf t ≡ tip → ⊥
+  pub free : getD (t .up) (headOf t) 0 ≡ 0
+
 pub record Spared (w : ℕ) (m : Memory) (tip k : ℕ) : Type 0 where
   pub positive : 0 < k
   pub slot : k < slots (m .tree)
   pub other : k ≡ tip → ⊥
   pub unused : idle w m k ≡ true
+  pub hinted : Hinted (m .tree) tip → k ≡ headOf (m .tree)
 
 pub record Exhausted (w : ℕ) (m : Memory) (tip k : ℕ) : Type 0 where
   pub none : k ≡ slots (m .tree)

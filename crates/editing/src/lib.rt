@@ -7,9 +7,9 @@ ghost use lib.ListN.{length};
 ghost use Rattle.theory.specs.Bits.{front, prefixOf};
 ghost use Rattle.memory.specs.Path.{pathBit, pathBits};
 ghost use Rattle.memory.specs.Layout.{treeOf, memoryOf, slots, layoutSlots, Shaped, Whole, find};
-ghost use Rattle.memory.specs.Tidy.{bare};
+ghost use Rattle.memory.specs.Tidy.{bare, firstFree, nextFree};
 ghost use Rattle.editing.specs.Spare.{rises, idle, SpareFor};
-ghost use Rattle.editing.specs.Edits.{LinkSet, Hung, Dropped};
+ghost use Rattle.editing.specs.Edits.{LinkSet, headAfter, Hung, Dropped};
 ghost use Rattle.editing.specs.Routes.{CanWithdraw, CanAnnounce, OnPath, Reworked, Step, Announced, Withdrawn};
 use memory::Path;
 
@@ -72,9 +72,17 @@ fn is_idle(lo: &[u32], hi: &[u32], up: &[u32], hop: &[u32], slot: usize, width: 
 
 // The first free slot, as the chain has it: fresh memory is a chain from slot 1 on.
 fn first_free(head: u32) -> usize
-    ensures { λ r. ⌜ (0 < r) × (r < 4294967296) ⌝ }
+    ensures { λ r. ⌜ (r ≡ firstFree head) × (0 < r) × (r < 4294967296) ⌝ }
 {
     if head == 0 { 1 } else { head as usize }
+}
+
+// The free slot behind a free slot.
+fn next_free(next: u32, slot: usize) -> usize
+    requires { ⌜ slot < layoutSlots ⌝ }
+    ensures { λ r. ⌜ r ≡ nextFree next slot ⌝ }
+{
+    if next == 0 { slot + 1 } else { next as usize }
 }
 
 // A slot that may be taken while slot `tip` is worked on, or the number of slots where there is none. The chain's first slot is
@@ -115,20 +123,19 @@ fn set_link(lo: &mut [u32], hi: &mut [u32], slot: usize, right: bool, value: u32
     }
 }
 
-// The chain's first slot once `slot` is taken: the one behind it, if it was the first. Never behind the slots by more than 1.
+// The chain's head once a slot is taken: if that was the first, the one behind it, or the end of the slots.
 fn head_after(head: u32, slot: usize, next: u32, count: usize) -> u32
     requires { ⌜ (slot < count) × (count ≤ layoutSlots) ⌝ }
-    ensures { λ r. ⌜ (head ≤ count → r ≤ count) ⌝ }
+    ensures { λ r. ⌜ r ≡ headAfter head slot next count ⌝ }
 {
     if first_free(head) != slot {
         return head;
     }
-    let behind = if next == 0 { slot + 1 } else { next as usize };
+    let behind = next_free(next, slot);
     if behind < count {
-        behind as u32
-    } else {
-        count as u32
+        return behind as u32;
     }
+    count as u32
 }
 
 // Slot `slot` is emptied and becomes the child of slot `parent` behind a bit.

@@ -4,10 +4,12 @@ use mathlib.Core.List.{List}
 use mathlib.Core.Option.{none}
 use Prim.Native.Nat.{ℕ, _≤_, _<_}
 use native.Mathlib.Omega.{arith}
+use lib.ListN.{getD}
 use Rattle.rules.specs.Numbers.{ipv4, width, mostSlots}
 use Rattle.rules.specs.Plain.{Reached, at-first, after, updated}
 use Rattle.memory.specs.Layout.{Memory, slots, ledgerOf, zeroed}
-use Rattle.memory.specs.Tidy.{Tidy}
+use Rattle.memory.specs.Tidy.{Tidy, headOf}
+use Rattle.memory.proofs.Chain.{chained-head}
 use Rattle.memory.proofs.Zeros.{zeroed-ledger, zeroed-slots, zeroed-whole, zeroed-tidy, zeroed-head}
 use Rattle.ledger.specs.declared.Updated.{Updated}
 use Rattle.ledger.specs.Promise.{lentFault, afterFault, updateOf, Updates}
@@ -39,7 +41,7 @@ module _ (n : ℕ) (some-slot : 0 < n) (few : n ≤ mostSlots) where
   sound m at-zeros = record {
     let-through = zeroed-fine;
     plain = subst (Reached ipv4 n) (sym (zeroed-ledger n (width ipv4))) at-first;
-    tidy = zeroed-tidy n (width ipv4);
+    tidy = zeroed-tidy n some-slot (width ipv4);
     same-slots = zeroed-slots n;
   }
   sound m (by-update {m = before} reached list r u) =
@@ -54,3 +56,11 @@ module _ (n : ℕ) (some-slot : 0 < n) (few : n ≤ mostSlots) where
         tidy = u .tidy (was .tidy);
         same-slots = u .same-lengths .ups ∙ was .same-slots;
       }
+
+  -- NO SLOT IS SEARCHED FOR before the memory is full: where any slot is free, the chain's first one is
+  pub first-serves : (m : Memory) → ReachedMemory n m → (k : ℕ) → 0 < k → k < n → getD (m .tree .up) k 0 ≡ 0
+      → (0 < headOf (m .tree)) × (headOf (m .tree) < n) × (getD (m .tree .up) (headOf (m .tree)) 0 ≡ 0)
+  first-serves m reached k pos slot free =
+      let s = sound m reached in
+      let first = chained-head (m .tree) (s .tidy .chained) k pos (omega (arith, s .same-slots)) free in
+      (first .0, omega (arith, first .1, s .same-slots), first .2)

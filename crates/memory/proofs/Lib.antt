@@ -1,6 +1,7 @@
 pub mod Find
 pub mod Ledger
 pub mod Bare
+pub mod Chain
 pub mod Room
 pub mod Tidy
 pub mod Zeros

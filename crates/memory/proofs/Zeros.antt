@@ -12,6 +12,7 @@ use Rattle.theory.specs.Ledger.{nothing}
 use Rattle.memory.specs.Layout.{Memory, memoryOf, slots, layoutSlots, Whole, link, child, find, readHop, hopAt, ledgerOf, zeros, zeroed}
 use Rattle.memory.specs.Tidy.{Tidy}
 use Rattle.memory.proofs.Find.{below-or, none-of}
+use Rattle.memory.proofs.Chain.{zeros-chained}
 use Rattle.memory.proofs.Ledger.{hop-low, ledger-at, ledger-long}
 
 -- every element of a zeroed slice, and what lies behind it, reads as 0
@@ -56,12 +57,13 @@ module _ (n : ℕ) where
         hops = refl;
       }
 
-  pub zeroed-tidy : (w : ℕ) → Tidy w (zeroed n)
+  pub zeroed-tidy : 0 < n → (w : ℕ) → Tidy w (zeroed n)
   unfolding zeroed
-  zeroed-tidy w = record {
+  zeroed-tidy some w = record {
     each-slot = λ k p l other. inl record { no-mark = zero-at n k; no-hi = zero-at n k; no-hop = zero-at n k };
     neat = λ k b used. inl (no-link b k);
     plain = λ k e. zero-at n k;
+    chained = zeros-chained (zeroed n .tree) (zero-at n) (zero-at n) (omega (arith, zeros-length n));
   }
 
   pub zeroed-head : getD (zeroed n .tree .up) 0 0 ≡ 0

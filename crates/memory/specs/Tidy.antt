@@ -3,14 +3,15 @@
 -- ledger but for which slot a string lies in and the chain of free slots.
 use mathlib.Core.Path.{_≡_}
 use mathlib.Core.Logic.{_⊎_, _↔_}
-use mathlib.Core.Bool.{Bool, true, false, not, _&&_, _||_}
+use mathlib.Core.Bool.{Bool, true, false, cond, not, _&&_, _||_}
+use mathlib.Core.List.{List, [], _∷_}
 use mathlib.Core.Option.{none}
-use Prim.Native.Nat.{ℕ, _-_, _≤_, _<_}
+use Prim.Native.Nat.{ℕ, _+_, _-_, _≤_, _<_}
 use lib.Dec.{eqb}
 use lib.ListN.{length, getD}
-use Rattle.theory.specs.Bits.{Bits}
+use Rattle.theory.specs.Bits.{Bits, some-of}
 use Rattle.theory.specs.Ledger.{isHeld}
-use Rattle.memory.specs.Layout.{Memory, slots, link, child, find, hopAt}
+use Rattle.memory.specs.Layout.{Tree, Memory, slots, link, child, find, hopAt}
 
 -- a bare slot: it holds no hop, and with bits left it leads to no child
 unfoldable pub bare : Memory → ℕ → ℕ → Bool
@@ -23,6 +24,33 @@ pub record Free (m : Memory) (k : ℕ) : Type 0 where
   pub no-mark : getD (m .tree .up) k 0 ≡ 0
   pub no-hi : getD (m .tree .hi) k 0 ≡ 0
   pub no-hop : getD (m .hop) k 0 ≡ 0
+
+-- THE CHAIN of free slots, in slot numbers: the first one, and the one behind a free slot. In zeroed memory it is 1, 2, 3 and so
+-- on. It is a hint, tested before it is used; in tidy memory it has every free slot, once.
+abbrev pub firstFree : ℕ → ℕ
+firstFree head = cond (eqb head 0) 1 head
+
+abbrev pub nextFree : ℕ → ℕ → ℕ
+nextFree next slot = cond (eqb next 0) (slot + 1) next
+
+abbrev pub headOf : Tree → ℕ
+headOf t = firstFree (getD (t .up) 0 0)
+
+abbrev pub behind : Tree → ℕ → ℕ
+behind t k = nextFree (getD (t .lo) k 0) k
+
+abbrev pub listed : ℕ → List ℕ → Bool
+listed k ks = some-of (eqb k) ks
+
+pub data ChainFrom (t : Tree) : ℕ → List ℕ → Type 0 where
+  ends : {k : ℕ} → slots t ≤ k → ChainFrom t k []
+  goes-on : {k : ℕ} {ks : List ℕ} → 0 < k → k < slots t → getD (t .up) k 0 ≡ 0 → listed k ks ≡ false → ChainFrom t (behind t k) ks
+    → ChainFrom t k (k ∷ ks)
+
+pub record Chained (t : Tree) : Type 0 where
+  pub order : List ℕ
+  pub chain : ChainFrom t (headOf t) order
+  pub all : (k : ℕ) → 0 < k → k < slots t → getD (t .up) k 0 ≡ 0 → listed k order ≡ true
 
 -- a slot in use: a string of at most w bits lies in it, and it is not bare
 pub record Used (w : ℕ) (m : Memory) (k : ℕ) : Type 0 where
@@ -38,6 +66,7 @@ pub record TidyBut (w : ℕ) (m : Memory) (tip : ℕ) : Type 0 where
   pub neat : (k : ℕ) (b : Bool) → (k ≡ 0) ⊎ (0 < getD (m .tree .up) k 0)
       → (link (m .tree) b k ≡ 0) ⊎ (child (m .tree) b k ≡ link (m .tree) b k)
   pub plain : (k : ℕ) → hopAt m k ≡ none → getD (m .hop) k 0 ≡ 0
+  pub chained : Chained (m .tree)
 
 abbrev pub Tidy : ℕ → Memory → Type 0
 Tidy w m = TidyBut w m 0

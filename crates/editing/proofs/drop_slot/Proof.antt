@@ -64,7 +64,7 @@ same-length-4 c = search needs
 returns : tie.Need-returns
 returns c = stores-drop (c .before .before .before .before .before .before .before .before .before .before .before .before .before .args .lo .now) (c .before .before .before .before .before .before .before .before .before .before .before .before .before .args .hi .now) (c .before .before .before .before .before .before .before .before .before .before .before .before .before .args .up .now) (c .before .before .before .before .before .before .before .before .before .before .before .before .before .args .hop .now) (c .before .before .before .before .before .before .before .before .before .before .before .before .before .args .parent) (c .before .before .before .before .before .before .before .before .before .before .before .before .before .args .right) (c .before .before .before .before .before .before .before .before .before .before .before .before .before .args .slot) (c .before .before .before .before .before .before .before .first-free .result) (c .before .before .before .before .before .before .before .before .before .before .before .before .before .args .slot) 0 0
     (c .before .before .before .before .set-link .last .0) (c .before .before .before .before .set-link .last .1 .0) (c .before .before .before .before .before .before .before .before .before .before .before .before .before .pre .0) (c .before .before .before .before .before .before .before .before .before .before .before .before .before .pre .1) (c .before .before .before .before .before .before .before .before .before .before .before .before .before .pre .2) (c .before .before .before .before .before .before .before .before .before .before .before .before .before .pre .3) (c .before .before .before .before .before .before .before .before .before .before .before .before .before .pre .4) (c .before .before .before .before .set-link .ensures)
-    (λ h. omega (arith, c .before .before .before .before .before .before .before .before .before .before .before .before .before .pre .3)) refl refl
+    (λ h. omega (arith, c .before .before .before .before .before .before .before .before .before .before .before .before .before .pre .3)) refl refl refl (c .before .before .before .before .before .before .before .first-free .ensures .0)
 
 pub drop-slot-spec : {M : Type 1} → statement M
 drop-slot-spec =

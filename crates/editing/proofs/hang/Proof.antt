@@ -1,9 +1,10 @@
 -- The stores are those of an edit: the slot is emptied and marked, its parent leads to it, and the chain goes on behind it.
-use mathlib.Core.Path.{refl, _∙_}
+use mathlib.Core.Path.{_≡_, refl, ap, _∙_}
 use native.Mathlib.Omega.{arith}
-use lib.ListN.{length-set}
+use lib.ListN.{length, getD, length-set}
 use Rattle.memory.proofs.Find.{mark-bound}
-use Rattle.editing.proofs.Stores.{stores-hang}
+use Rattle.editing.specs.Edits.{headAfter}
+use Rattle.editing.proofs.Stores.{head-bound, stores-hang}
 use borrow.Author.Needs.{needs}
 use Rattle.editing.proofs.hang.Statement.{statement}
 use Rattle.editing.proofs.hang.Tie as tie
@@ -72,10 +73,13 @@ same-length-4 : tie.Need-same-length-4
 same-length-4 c = search needs
 
 returns : tie.Need-returns
-returns c = stores-hang (c .before .before .before .before .before .before .before .before .before .before .before .before .before .before .before .args .lo .now) (c .before .before .before .before .before .before .before .before .before .before .before .before .before .before .before .args .hi .now) (c .before .before .before .before .before .before .before .before .before .before .before .before .before .before .before .args .up .now) (c .before .before .before .before .before .before .before .before .before .before .before .before .before .before .before .args .hop .now) (c .before .before .before .before .before .before .before .before .before .before .before .before .before .before .before .args .parent) (c .before .before .before .before .before .before .before .before .before .before .before .before .before .before .before .args .right) (c .before .before .before .before .before .before .before .before .before .before .before .before .before .before .before .args .slot) 0 (c .before .before .before .before .before .before .before .before .head-after .result) (c .before .before .before .before .before .before .before .mark-of .result) (c .before .before .before .before .before .before .before .before .before .before .before .before .before .before .before .args .slot)
+returns c =
+    let onwards : c .before .before .before .before .before .before .before .before .head-after .result ≡ headAfter (getD (c .before .before .before .before .before .before .before .before .before .before .before .before .before .before .before .args .up .now) 0 0) (c .before .before .before .before .before .before .before .before .before .before .before .before .before .before .before .args .slot) (getD (c .before .before .before .before .before .before .before .before .before .before .before .before .before .before .before .args .lo .now) (c .before .before .before .before .before .before .before .before .before .before .before .before .before .before .before .args .slot) 0) (length (c .before .before .before .before .before .before .before .before .before .before .before .before .before .before .before .args .up .now)) =
+        c .before .before .before .before .before .before .before .before .head-after .ensures ∙ ap (headAfter (getD (c .before .before .before .before .before .before .before .before .before .before .before .before .before .before .before .args .up .now) 0 0) (c .before .before .before .before .before .before .before .before .before .before .before .before .before .before .before .args .slot) (getD (c .before .before .before .before .before .before .before .before .before .before .before .before .before .before .before .args .lo .now) (c .before .before .before .before .before .before .before .before .before .before .before .before .before .before .before .args .slot) 0)) (c .before .before .before .before .before .before .before .before .before .before .before .before .before .before .before .pre .0 .shaped .los) in
+    stores-hang (c .before .before .before .before .before .before .before .before .before .before .before .before .before .before .before .args .lo .now) (c .before .before .before .before .before .before .before .before .before .before .before .before .before .before .before .args .hi .now) (c .before .before .before .before .before .before .before .before .before .before .before .before .before .before .before .args .up .now) (c .before .before .before .before .before .before .before .before .before .before .before .before .before .before .before .args .hop .now) (c .before .before .before .before .before .before .before .before .before .before .before .before .before .before .before .args .parent) (c .before .before .before .before .before .before .before .before .before .before .before .before .before .before .before .args .right) (c .before .before .before .before .before .before .before .before .before .before .before .before .before .before .before .args .slot) 0 (c .before .before .before .before .before .before .before .before .head-after .result) (c .before .before .before .before .before .before .before .mark-of .result) (c .before .before .before .before .before .before .before .before .before .before .before .before .before .before .before .args .slot)
     (c .before .before .before .before .set-link .last .0) (c .before .before .before .before .set-link .last .1 .0) (c .before .before .before .before .before .before .before .before .before .before .before .before .before .before .before .pre .0) (c .before .before .before .before .before .before .before .before .before .before .before .before .before .before .before .pre .1) (c .before .before .before .before .before .before .before .before .before .before .before .before .before .before .before .pre .2) (c .before .before .before .before .before .before .before .before .before .before .before .before .before .before .before .pre .3) (c .before .before .before .before .before .before .before .before .before .before .before .before .before .before .before .pre .4) (c .before .before .before .before .set-link .ensures)
-    (λ h. omega (arith, c .before .before .before .before .before .before .before .before .head-after .ensures (omega (arith, c .before .before .before .before .before .before .before .before .before .before .before .before .before .before .before .pre .0 .shaped .los)), c .before .before .before .before .before .before .before .before .before .before .before .before .before .before .before .pre .0 .shaped .los))
-    refl (c .before .before .before .before .before .before .before .mark-of .ensures) refl
+    (λ h. omega (arith, onwards, head-bound (getD (c .before .before .before .before .before .before .before .before .before .before .before .before .before .before .before .args .up .now) 0 0) (c .before .before .before .before .before .before .before .before .before .before .before .before .before .before .before .args .slot) (getD (c .before .before .before .before .before .before .before .before .before .before .before .before .before .before .before .args .lo .now) (c .before .before .before .before .before .before .before .before .before .before .before .before .before .before .before .args .slot) 0) (length (c .before .before .before .before .before .before .before .before .before .before .before .before .before .before .before .args .up .now)) h))
+    refl (c .before .before .before .before .before .before .before .mark-of .ensures) refl onwards
 
 pub hang-spec : {M : Type 1} → statement M
 hang-spec =

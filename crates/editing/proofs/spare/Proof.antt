@@ -1,11 +1,11 @@
 -- The chain's first slot has no mark; else every slot before the present one is in use.
 use borrow.Author.Needs.{needs}
-use mathlib.Core.Path.{_≡_, refl, sym, _∙_}
+use mathlib.Core.Path.{_≡_, refl, sym, ap, _∙_}
 use mathlib.Core.Bool.{false}
 use mathlib.Core.Logic.{inl, inr, ⊎-elim}
 use Prim.Native.Nat.{ℕ, _-_, _≤_, _<_}
 use native.Mathlib.Omega.{arith}
-use lib.ListN.{length}
+use lib.ListN.{length, getD}
 use Rattle.memory.specs.Layout.{memoryOf}
 use Rattle.editing.specs.Spare.{idle}
 use Rattle.editing.proofs.Rising.{idle-unmarked, all-before}
@@ -32,10 +32,11 @@ shared-slice-read-if3 c = search needs
 
 returns : tie.Need-returns Inv-loop μ-loop
 returns c = inl record {
-  positive = c .before .before .before .before .first-free .ensures .0;
+  positive = c .before .before .before .before .first-free .ensures .1;
   slot = c .before .before .before .if1 .taken;
   other = c .before .before .if2 .taken;
-  unused = idle-unmarked (c .before .before .before .before .before .before .before .before .before .before .args .width) (memoryOf (c .before .before .before .before .before .before .before .before .before .before .args .lo .now) (c .before .before .before .before .before .before .before .before .before .before .args .hi .now) (c .before .before .before .before .before .before .before .before .before .before .args .up .now) (c .before .before .before .before .before .before .before .before .before .before .args .hop .now)) (c .before .before .before .before .first-free .result) (c .before .before .before .before .first-free .ensures .0) (c .if3 .taken);
+  unused = idle-unmarked (c .before .before .before .before .before .before .before .before .before .before .args .width) (memoryOf (c .before .before .before .before .before .before .before .before .before .before .args .lo .now) (c .before .before .before .before .before .before .before .before .before .before .args .hi .now) (c .before .before .before .before .before .before .before .before .before .before .args .up .now) (c .before .before .before .before .before .before .before .before .before .before .args .hop .now)) (c .before .before .before .before .first-free .result) (c .before .before .before .before .first-free .ensures .1) (c .if3 .taken);
+  hinted = λ h. c .before .before .before .before .first-free .ensures .0;
 }
 
 loop-holds : tie.Need-loop-holds Inv-loop μ-loop
@@ -50,6 +51,11 @@ returns-2 c = inl record {
   slot = c .before .before .before .loop-test .taken;
   other = c .before .before .if4 .taken;
   unused = sym (c .before .is-idle .ensures) ∙ c .if5 .taken;
+  hinted = λ h.
+    let head = c .before .before .before .before .before .before .first-free .ensures .0 in
+    absurd
+    (⊎-elim (λ x. x .3 .left (ap (λ y. getD (c .before .before .before .before .before .before .before .before .before .before .before .before .args .up .now) y 0) head ∙ h .free))
+    (⊎-elim (λ x. h .other (sym head ∙ x .1 .left)) (λ x. omega (arith, h .slot, head, x .left))) (c .before .before .before .before .before .if1 .came));
 }
 
 add-slot : tie.Need-add-slot Inv-loop μ-loop
