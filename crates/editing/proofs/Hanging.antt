@@ -233,8 +233,8 @@ module _ (w : ℕ) (m m' : Memory) (p : ℕ) (b : Bool) (k : ℕ) (s0 : Bits) (w
         (hung .head ∙ rw (eq-eqb (headOf (m .tree)) k was-first))
         (λ j pos not-k is-free. (hung .other-marks j pos not-k, hung .other-links j false not-k (λ e q. not-p j pos is-free e)))
         (λ j pos is-free.
-          let not-k : j ≡ k → ⊥ = λ e. omega (arith, ap (λ x. getD (m' .tree .up) x 0) e, hung .new-mark, mark-positive p b) in
-          (not-k, sym (hung .other-marks j pos not-k) ∙ is-free))
+        let not-k : j ≡ k → ⊥ = λ e. omega (arith, ap (λ x. getD (m' .tree .up) x 0) e, hung .new-mark, mark-positive p b) in
+        (not-k, sym (hung .other-marks j pos not-k) ∙ is-free))
         (tidy .chained)
 
     pub hung-tidy : TidyBut w m' k

@@ -75,7 +75,6 @@ module _ (t t' : Tree) (same-slots : slots t' ≡ slots t) where
       (head' : getD (t' .up) 0 0 ≡ cond (ltb (behind t k) (slots t)) (behind t k) (slots t))
       (others : (j : ℕ) → 0 < j → (j ≡ k → ⊥) → getD (t .up) j 0 ≡ 0 → (getD (t' .up) j 0 ≡ getD (t .up) j 0) × (getD (t' .lo) j 0 ≡ getD (t .lo) j 0))
       (free-before : (j : ℕ) → 0 < j → getD (t' .up) j 0 ≡ 0 → (j ≡ k → ⊥) × (getD (t .up) j 0 ≡ 0)) where
-
     -- the chain goes on from the slot behind
     new-head : (ks : List ℕ) → ChainFrom t (behind t k) ks → ChainFrom t' (behind t k) ks → ChainFrom t' (headOf t') ks
     new-head ks rest rest' =
@@ -104,8 +103,8 @@ module _ (t t' : Tree) (same-slots : slots t' ≡ slots t) where
               (chain-kept (behind t k) ks onwards
               (λ j q. let f = chain-free t (behind t k) ks onwards j q in others j (f .0) (listed-apart j k ks q once-k) (f .1)));
           all = λ j q r s.
-            let before = free-before j q s in
-            listed-other j y ks (λ z. before .0 (z ∙ e)) (all j q (omega arith) (before .1));
+              let before = free-before j q s in
+              listed-other j y ks (λ z. before .0 (z ∙ e)) (all j q (omega arith) (before .1));
         }
 
     pub chain-taken : Chained t → Chained t'
@@ -116,7 +115,6 @@ module _ (t t' : Tree) (same-slots : slots t' ≡ slots t) where
       (head' : getD (t' .up) 0 0 ≡ k) (free' : getD (t' .up) k 0 ≡ 0) (next' : getD (t' .lo) k 0 ≡ headOf t)
       (others : (j : ℕ) → 0 < j → (j ≡ k → ⊥) → getD (t .up) j 0 ≡ 0 → (getD (t' .up) j 0 ≡ getD (t .up) j 0) × (getD (t' .lo) j 0 ≡ getD (t .lo) j 0))
       (free-before : (j : ℕ) → 0 < j → (j ≡ k → ⊥) → getD (t' .up) j 0 ≡ 0 → getD (t .up) j 0 ≡ 0) where
-
     head-positive : 0 < headOf t
     head-positive =
         elim (by-test (eqb (getD (t .up) 0 0) 0)) [
@@ -127,24 +125,24 @@ module _ (t t' : Tree) (same-slots : slots t' ≡ slots t) where
     pub chain-freed : Chained t → Chained t'
     chain-freed c =
         let not-listed : listed k (c .order) ≡ false =
-            elim (by-test (listed k (c .order))) [
-              | inl e ↦ absurd (omega (arith, chain-free t (headOf t) (c .order) (c .chain) k e .1))
-              | inr e ↦ e
-            ] in
+        elim (by-test (listed k (c .order))) [
+          | inl e ↦ absurd (omega (arith, chain-free t (headOf t) (c .order) (c .chain) k e .1))
+          | inr e ↦ e
+        ] in
         let next-there : behind t' k ≡ headOf t =
-            rw (ne-eqb (getD (t' .lo) k 0) 0 (λ e. omega (arith, head-positive, next'))) next' in
+        rw (ne-eqb (getD (t' .lo) k 0) 0 (λ e. omega (arith, head-positive, next'))) next' in
         let rest : ChainFrom t' (headOf t) (c .order) =
-            chain-kept (headOf t) (c .order) (c .chain)
-            (λ j q. let f = chain-free t (headOf t) (c .order) (c .chain) j q in others j (f .0) (listed-apart j k (c .order) q not-listed) (f .1)) in
+        chain-kept (headOf t) (c .order) (c .chain)
+        (λ j q. let f = chain-free t (headOf t) (c .order) (c .chain) j q in others j (f .0) (listed-apart j k (c .order) q not-listed) (f .1)) in
         record {
           order = k ∷ c .order;
           chain = subst (λ y. ChainFrom t' y (k ∷ c .order)) (sym (head-is t' k head' positive))
               (goes-on positive (omega arith) free' not-listed (subst (λ y. ChainFrom t' y (c .order)) (sym next-there) rest));
           all = λ j q r s.
-            elim (same-or j k) [
-              | inl e ↦ rw (eq-eqb j k e)
-              | inr e ↦ listed-later j k (c .order) (c .all j q (omega arith) (free-before j q e s))
-            ];
+              elim (same-or j k) [
+                | inl e ↦ rw (eq-eqb j k e)
+                | inr e ↦ listed-later j k (c .order) (c .all j q (omega arith) (free-before j q e s))
+              ];
         }
 
 -- ZEROED MEMORY: 1, 2, 3 and so on

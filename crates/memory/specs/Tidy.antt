@@ -45,7 +45,7 @@ listed k ks = some-of (eqb k) ks
 pub data ChainFrom (t : Tree) : ℕ → List ℕ → Type 0 where
   ends : {k : ℕ} → slots t ≤ k → ChainFrom t k []
   goes-on : {k : ℕ} {ks : List ℕ} → 0 < k → k < slots t → getD (t .up) k 0 ≡ 0 → listed k ks ≡ false → ChainFrom t (behind t k) ks
-    → ChainFrom t k (k ∷ ks)
+      → ChainFrom t k (k ∷ ks)
 
 pub record Chained (t : Tree) : Type 0 where
   pub order : List ℕ

@@ -19,30 +19,81 @@ abbrev μ-loop : tie.MeasureT-loop
 μ-loop lo₀ hi₀ up₀ hop₀ path size width neighbour slot₀ depth₀ lo hi up hop slot depth = size - depth
 
 loop-holds : tie.Need-loop-holds Inv-loop μ-loop
-loop-holds c = start (c .before .before .before .before .args .width) (memoryOf (c .before .before .before .before .args .lo .now) (c .before .before .before .before .args .hi .now) (c .before .before .before .before .args .up .now) (c .before .before .before .before .args .hop .now)) (memoryOf (c .before .before .before .before .args .lo .now) (c .before .before .before .before .args .hi .now) (c .before .before .before .before .args .up .now) (c .before .before .before .before .args .hop .now)) (pathBit (c .before .before .before .before .args .path)) (c .before .before .before .before .args .size) (c .before .before .before .before .args .neighbour) (c .before .before .before .before .pre)
+loop-holds c =
+    let entry = c .before .before .before .before in
+    let lent = memoryOf (entry .args .lo .now) (entry .args .hi .now) (entry .args .up .now) (entry .args .hop .now) in
+    let bits = pathBit (entry .args .path) in
+    start (entry .args .width) lent lent bits (entry .args .size) (entry .args .neighbour) (entry .pre)
 
 extend-requires : tie.Need-extend-requires Inv-loop μ-loop
-extend-requires c κs = (c .before .before .before .before .before .loop .inv .1, omega (arith, c .before .before .before .before .loop-test .taken, c .before .before .before .before .before .before .before .before .before .before .pre .route .short))
+extend-requires c κs =
+    let at-loop-test = c .before .before .before .before in
+    let turn = at-loop-test .before in
+    let entry = turn .before .before .before .before .before in
+    (turn .loop .inv .1, omega (arith, at-loop-test .loop-test .taken, entry .pre .route .short))
 
 prune-requires : tie.Need-prune-requires Inv-loop μ-loop
-prune-requires c κs = still-on (c .before .before .before .before .before .before .before .before .before .before .before .before .before .before .before .before .before .before .before .before .before .before .before .before .args .width) (memoryOf (c .before .before .before .before .before .before .before .before .before .before .before .before .before .before .before .before .before .before .before .before .before .before .before .before .args .lo .now) (c .before .before .before .before .before .before .before .before .before .before .before .before .before .before .before .before .before .before .before .before .before .before .before .before .args .hi .now) (c .before .before .before .before .before .before .before .before .before .before .before .before .before .before .before .before .before .before .before .before .before .before .before .before .args .up .now) (c .before .before .before .before .before .before .before .before .before .before .before .before .before .before .before .before .before .before .before .before .before .before .before .before .args .hop .now)) (memoryOf (c .before .before .before .before .before .before .before .before .before .before .before .before .before .before .before .before .before .before .before .loop .lo) (c .before .before .before .before .before .before .before .before .before .before .before .before .before .before .before .before .before .before .before .loop .hi) (c .before .before .before .before .before .before .before .before .before .before .before .before .before .before .before .before .before .before .before .loop .up) (c .before .before .before .before .before .before .before .before .before .before .before .before .before .before .before .before .before .before .before .loop .hop)) (pathBit (c .before .before .before .before .before .before .before .before .before .before .before .before .before .before .before .before .before .before .before .before .before .before .before .before .args .path)) (c .before .before .before .before .before .before .before .before .before .before .before .before .before .before .before .before .before .before .before .before .before .before .before .before .args .size) (c .before .before .before .before .before .before .before .before .before .before .before .before .before .before .before .before .before .before .before .before .before .before .before .before .args .neighbour) (c .before .before .before .before .before .before .before .before .before .before .before .before .before .before .before .before .before .before .before .before .before .before .before .before .pre) (c .before .before .before .before .before .before .before .before .before .before .before .before .before .before .before .before .before .before .before .loop .depth) (c .before .before .before .before .before .before .before .before .before .before .before .before .before .before .before .before .before .before .before .loop .slot) (c .before .before .before .before .before .before .before .before .before .before .before .before .before .before .before .before .before .before .before .loop .inv .0) (c .before .before .before .before .before .before .before .before .before .before .before .before .before .before .before .before .before .before .before .loop .inv .1) (memoryOf (c .before .before .before .before .before .before .before .before .before .before .before .before .before .extend .last .0) (c .before .before .before .before .before .before .before .before .before .before .before .before .before .extend .last .1 .0) (c .before .before .before .before .before .before .before .before .before .before .before .before .before .extend .last .1 .1 .0) (c .before .before .before .before .before .before .before .before .before .before .before .before .before .extend .last .1 .1 .1 .0)) (c .before .before .before .before .before .before .before .before .before .before .before .before .before .extend .result)
-    (step-refused (c .before .before .before .before .before .before .before .before .before .before .before .before .before .before .before .before .before .before .before .before .before .before .before .before .args .width) (memoryOf (c .before .before .before .before .before .before .before .before .before .before .before .before .before .before .before .before .before .before .before .loop .lo) (c .before .before .before .before .before .before .before .before .before .before .before .before .before .before .before .before .before .before .before .loop .hi) (c .before .before .before .before .before .before .before .before .before .before .before .before .before .before .before .before .before .before .before .loop .up) (c .before .before .before .before .before .before .before .before .before .before .before .before .before .before .before .before .before .before .before .loop .hop)) (memoryOf (c .before .before .before .before .before .before .before .before .before .before .before .before .before .extend .last .0) (c .before .before .before .before .before .before .before .before .before .before .before .before .before .extend .last .1 .0) (c .before .before .before .before .before .before .before .before .before .before .before .before .before .extend .last .1 .1 .0) (c .before .before .before .before .before .before .before .before .before .before .before .before .before .extend .last .1 .1 .1 .0)) (pathBit (c .before .before .before .before .before .before .before .before .before .before .before .before .before .before .before .before .before .before .before .before .before .before .before .before .args .path)) (c .before .before .before .before .before .before .before .before .before .before .before .before .before .before .before .before .before .before .before .loop .depth) (c .before .before .before .before .before .before .before .before .before .before .before .before .before .before .before .before .before .before .before .loop .slot) (c .before .before .before .before .before .before .before .before .before .before .before .before .before .extend .result) (c .before .before .before .before .before .before .before .before .before .before .before .before .before .extend .ensures) (c .before .before .before .before .if1 .taken))
+prune-requires c κs =
+    let at-if1 = c .before .before .before .before in
+    let at-extend = at-if1 .before .before .before .before .before .before .before .before .before in
+    let turn = at-extend .before .before .before .before .before .before in
+    let entry = turn .before .before .before .before .before in
+    let lent = memoryOf (entry .args .lo .now) (entry .args .hi .now) (entry .args .up .now) (entry .args .hop .now) in
+    let held = memoryOf (turn .loop .lo) (turn .loop .hi) (turn .loop .up) (turn .loop .hop) in
+    let after-extend = memoryOf (at-extend .extend .last .0) (at-extend .extend .last .1 .0) (at-extend .extend .last .1 .1 .0) (at-extend .extend .last .1 .1 .1 .0) in
+    let bits = pathBit (entry .args .path) in
+    still-on (entry .args .width) lent held bits (entry .args .size) (entry .args .neighbour) (entry .pre)
+    (turn .loop .depth) (turn .loop .slot) (turn .loop .inv .0) (turn .loop .inv .1) after-extend
+    (at-extend .extend .result)
+    (step-refused (entry .args .width) held after-extend bits (turn .loop .depth) (turn .loop .slot)
+    (at-extend .extend .result) (at-extend .extend .ensures) (at-if1 .if1 .taken))
 
 returns : tie.Need-returns Inv-loop μ-loop
-returns c = announce-refused (c .before .before .before .before .before .before .before .before .before .before .before .before .before .before .before .before .before .before .before .before .before .before .before .before .before .before .before .before .before .before .before .before .before .args .width) (memoryOf (c .before .before .before .before .before .before .before .before .before .before .before .before .before .before .before .before .before .before .before .before .before .before .before .before .before .before .before .before .before .before .before .before .before .args .lo .now) (c .before .before .before .before .before .before .before .before .before .before .before .before .before .before .before .before .before .before .before .before .before .before .before .before .before .before .before .before .before .before .before .before .before .args .hi .now) (c .before .before .before .before .before .before .before .before .before .before .before .before .before .before .before .before .before .before .before .before .before .before .before .before .before .before .before .before .before .before .before .before .before .args .up .now) (c .before .before .before .before .before .before .before .before .before .before .before .before .before .before .before .before .before .before .before .before .before .before .before .before .before .before .before .before .before .before .before .before .before .args .hop .now)) (memoryOf (c .before .before .before .before .before .before .before .before .before .before .before .before .before .before .before .before .before .before .before .before .before .before .before .before .before .before .before .before .loop .lo) (c .before .before .before .before .before .before .before .before .before .before .before .before .before .before .before .before .before .before .before .before .before .before .before .before .before .before .before .before .loop .hi) (c .before .before .before .before .before .before .before .before .before .before .before .before .before .before .before .before .before .before .before .before .before .before .before .before .before .before .before .before .loop .up) (c .before .before .before .before .before .before .before .before .before .before .before .before .before .before .before .before .before .before .before .before .before .before .before .before .before .before .before .before .loop .hop)) (pathBit (c .before .before .before .before .before .before .before .before .before .before .before .before .before .before .before .before .before .before .before .before .before .before .before .before .before .before .before .before .before .before .before .before .before .args .path)) (c .before .before .before .before .before .before .before .before .before .before .before .before .before .before .before .before .before .before .before .before .before .before .before .before .before .before .before .before .before .before .before .before .before .args .size) (c .before .before .before .before .before .before .before .before .before .before .before .before .before .before .before .before .before .before .before .before .before .before .before .before .before .before .before .before .before .before .before .before .before .args .neighbour) (c .before .before .before .before .before .before .before .before .before .before .before .before .before .before .before .before .before .before .before .before .before .before .before .before .before .before .before .before .before .before .before .before .before .pre) (c .before .before .before .before .before .before .before .before .before .before .before .before .before .before .before .before .before .before .before .before .before .before .before .before .before .before .before .before .loop .depth) (c .before .before .before .before .before .before .before .before .before .before .before .before .before .before .before .before .before .before .before .before .before .before .before .before .before .before .before .before .loop .slot) (c .before .before .before .before .before .before .before .before .before .before .before .before .before .before .before .before .before .before .before .before .before .before .before .before .before .before .before .before .loop .inv .0) (c .before .before .before .before .before .before .before .before .before .before .before .before .before .before .before .before .before .before .before .before .before .before .before .before .before .before .before .before .loop .inv .1) (c .before .before .before .before .before .before .before .before .before .before .before .before .before .before .before .before .before .before .before .before .before .before .before .before .before .before .before .loop-test .taken) (memoryOf (c .before .before .before .before .before .before .before .before .before .before .before .before .before .before .before .before .before .before .before .before .before .before .extend .last .0) (c .before .before .before .before .before .before .before .before .before .before .before .before .before .before .before .before .before .before .before .before .before .before .extend .last .1 .0) (c .before .before .before .before .before .before .before .before .before .before .before .before .before .before .before .before .before .before .before .before .before .before .extend .last .1 .1 .0) (c .before .before .before .before .before .before .before .before .before .before .before .before .before .before .before .before .before .before .before .before .before .before .extend .last .1 .1 .1 .0)) (memoryOf (c .before .before .before .before .before .before .before .before .prune .last .0) (c .before .before .before .before .before .before .before .before .prune .last .1 .0) (c .before .before .before .before .before .before .before .before .prune .last .1 .1 .0) (c .before .before .before .before .before .before .before .before .prune .last .1 .1 .1 .0)) (c .before .before .before .before .before .before .before .before .before .before .before .before .before .before .before .before .before .before .before .before .before .before .extend .result)
-    (step-refused (c .before .before .before .before .before .before .before .before .before .before .before .before .before .before .before .before .before .before .before .before .before .before .before .before .before .before .before .before .before .before .before .before .before .args .width) (memoryOf (c .before .before .before .before .before .before .before .before .before .before .before .before .before .before .before .before .before .before .before .before .before .before .before .before .before .before .before .before .loop .lo) (c .before .before .before .before .before .before .before .before .before .before .before .before .before .before .before .before .before .before .before .before .before .before .before .before .before .before .before .before .loop .hi) (c .before .before .before .before .before .before .before .before .before .before .before .before .before .before .before .before .before .before .before .before .before .before .before .before .before .before .before .before .loop .up) (c .before .before .before .before .before .before .before .before .before .before .before .before .before .before .before .before .before .before .before .before .before .before .before .before .before .before .before .before .loop .hop)) (memoryOf (c .before .before .before .before .before .before .before .before .before .before .before .before .before .before .before .before .before .before .before .before .before .before .extend .last .0) (c .before .before .before .before .before .before .before .before .before .before .before .before .before .before .before .before .before .before .before .before .before .before .extend .last .1 .0) (c .before .before .before .before .before .before .before .before .before .before .before .before .before .before .before .before .before .before .before .before .before .before .extend .last .1 .1 .0) (c .before .before .before .before .before .before .before .before .before .before .before .before .before .before .before .before .before .before .before .before .before .before .extend .last .1 .1 .1 .0)) (pathBit (c .before .before .before .before .before .before .before .before .before .before .before .before .before .before .before .before .before .before .before .before .before .before .before .before .before .before .before .before .before .before .before .before .before .args .path)) (c .before .before .before .before .before .before .before .before .before .before .before .before .before .before .before .before .before .before .before .before .before .before .before .before .before .before .before .before .loop .depth) (c .before .before .before .before .before .before .before .before .before .before .before .before .before .before .before .before .before .before .before .before .before .before .before .before .before .before .before .before .loop .slot) (c .before .before .before .before .before .before .before .before .before .before .before .before .before .before .before .before .before .before .before .before .before .before .extend .result) (c .before .before .before .before .before .before .before .before .before .before .before .before .before .before .before .before .before .before .before .before .before .before .extend .ensures) (c .before .before .before .before .before .before .before .before .before .before .before .before .before .if1 .taken)) (c .before .before .before .before .before .before .before .before .prune .ensures)
+returns c =
+    let at-prune = c .before .before .before .before .before .before .before .before in
+    let at-if1 = at-prune .before .before .before .before .before in
+    let at-extend = at-if1 .before .before .before .before .before .before .before .before .before in
+    let at-loop-test = at-extend .before .before .before .before .before in
+    let turn = at-loop-test .before in
+    let entry = turn .before .before .before .before .before in
+    let lent = memoryOf (entry .args .lo .now) (entry .args .hi .now) (entry .args .up .now) (entry .args .hop .now) in
+    let held = memoryOf (turn .loop .lo) (turn .loop .hi) (turn .loop .up) (turn .loop .hop) in
+    let after-extend = memoryOf (at-extend .extend .last .0) (at-extend .extend .last .1 .0) (at-extend .extend .last .1 .1 .0) (at-extend .extend .last .1 .1 .1 .0) in
+    let after-prune = memoryOf (at-prune .prune .last .0) (at-prune .prune .last .1 .0) (at-prune .prune .last .1 .1 .0) (at-prune .prune .last .1 .1 .1 .0) in
+    let bits = pathBit (entry .args .path) in
+    announce-refused (entry .args .width) lent held bits (entry .args .size) (entry .args .neighbour) (entry .pre)
+    (turn .loop .depth) (turn .loop .slot) (turn .loop .inv .0) (turn .loop .inv .1) (at-loop-test .loop-test .taken)
+    after-extend after-prune (at-extend .extend .result)
+    (step-refused (entry .args .width) held after-extend bits (turn .loop .depth) (turn .loop .slot)
+    (at-extend .extend .result) (at-extend .extend .ensures) (at-if1 .if1 .taken))
+    (at-prune .prune .ensures)
 
 same-length : tie.Need-same-length Inv-loop μ-loop
-same-length c = kept-lo (memoryOf (c .before .before .before .before .before .before .before .before .before .before .before .before .before .before .before .before .before .before .before .before .before .before .before .before .before .before .before .before .before .before .before .before .before .args .lo .now) (c .before .before .before .before .before .before .before .before .before .before .before .before .before .before .before .before .before .before .before .before .before .before .before .before .before .before .before .before .before .before .before .before .before .args .hi .now) (c .before .before .before .before .before .before .before .before .before .before .before .before .before .before .before .before .before .before .before .before .before .before .before .before .before .before .before .before .before .before .before .before .before .args .up .now) (c .before .before .before .before .before .before .before .before .before .before .before .before .before .before .before .before .before .before .before .before .before .before .before .before .before .before .before .before .before .before .before .before .before .args .hop .now)) (memoryOf (c .before .before .before .before .before .before .before .before .prune .last .0) (c .before .before .before .before .before .before .before .before .prune .last .1 .0) (c .before .before .before .before .before .before .before .before .prune .last .1 .1 .0) (c .before .before .before .before .before .before .before .before .prune .last .1 .1 .1 .0)) (c .before .before .before .before .before .before .before .before .before .before .before .before .before .before .before .before .before .before .before .before .before .before .before .before .before .before .before .before .before .before .before .before .before .pre .route .whole) (returns c .kept)
+same-length c =
+    let at-prune = c .before .before .before .before .before .before .before .before in
+    let entry = at-prune .before .before .before .before .before .before .before .before .before .before .before .before .before .before .before .before .before .before .before .before .before .before .before .before .before in
+    let lent = memoryOf (entry .args .lo .now) (entry .args .hi .now) (entry .args .up .now) (entry .args .hop .now) in
+    let after-prune = memoryOf (at-prune .prune .last .0) (at-prune .prune .last .1 .0) (at-prune .prune .last .1 .1 .0) (at-prune .prune .last .1 .1 .1 .0) in
+    kept-lo lent after-prune (entry .pre .route .whole) (returns c .kept)
 
 same-length-2 : tie.Need-same-length-2 Inv-loop μ-loop
-same-length-2 c = kept-hi (memoryOf (c .before .before .before .before .before .before .before .before .before .before .before .before .before .before .before .before .before .before .before .before .before .before .before .before .before .before .before .before .before .before .before .before .before .args .lo .now) (c .before .before .before .before .before .before .before .before .before .before .before .before .before .before .before .before .before .before .before .before .before .before .before .before .before .before .before .before .before .before .before .before .before .args .hi .now) (c .before .before .before .before .before .before .before .before .before .before .before .before .before .before .before .before .before .before .before .before .before .before .before .before .before .before .before .before .before .before .before .before .before .args .up .now) (c .before .before .before .before .before .before .before .before .before .before .before .before .before .before .before .before .before .before .before .before .before .before .before .before .before .before .before .before .before .before .before .before .before .args .hop .now)) (memoryOf (c .before .before .before .before .before .before .before .before .prune .last .0) (c .before .before .before .before .before .before .before .before .prune .last .1 .0) (c .before .before .before .before .before .before .before .before .prune .last .1 .1 .0) (c .before .before .before .before .before .before .before .before .prune .last .1 .1 .1 .0)) (c .before .before .before .before .before .before .before .before .before .before .before .before .before .before .before .before .before .before .before .before .before .before .before .before .before .before .before .before .before .before .before .before .before .pre .route .whole) (returns c .kept)
+same-length-2 c =
+    let at-prune = c .before .before .before .before .before .before .before .before in
+    let entry = at-prune .before .before .before .before .before .before .before .before .before .before .before .before .before .before .before .before .before .before .before .before .before .before .before .before .before in
+    let lent = memoryOf (entry .args .lo .now) (entry .args .hi .now) (entry .args .up .now) (entry .args .hop .now) in
+    let after-prune = memoryOf (at-prune .prune .last .0) (at-prune .prune .last .1 .0) (at-prune .prune .last .1 .1 .0) (at-prune .prune .last .1 .1 .1 .0) in
+    kept-hi lent after-prune (entry .pre .route .whole) (returns c .kept)
 
 same-length-3 : tie.Need-same-length-3 Inv-loop μ-loop
 same-length-3 c = returns c .kept .same-slots
 
 same-length-4 : tie.Need-same-length-4 Inv-loop μ-loop
-same-length-4 c = kept-hop (memoryOf (c .before .before .before .before .before .before .before .before .before .before .before .before .before .before .before .before .before .before .before .before .before .before .before .before .before .before .before .before .before .before .before .before .before .args .lo .now) (c .before .before .before .before .before .before .before .before .before .before .before .before .before .before .before .before .before .before .before .before .before .before .before .before .before .before .before .before .before .before .before .before .before .args .hi .now) (c .before .before .before .before .before .before .before .before .before .before .before .before .before .before .before .before .before .before .before .before .before .before .before .before .before .before .before .before .before .before .before .before .before .args .up .now) (c .before .before .before .before .before .before .before .before .before .before .before .before .before .before .before .before .before .before .before .before .before .before .before .before .before .before .before .before .before .before .before .before .before .args .hop .now)) (memoryOf (c .before .before .before .before .before .before .before .before .prune .last .0) (c .before .before .before .before .before .before .before .before .prune .last .1 .0) (c .before .before .before .before .before .before .before .before .prune .last .1 .1 .0) (c .before .before .before .before .before .before .before .before .prune .last .1 .1 .1 .0)) (c .before .before .before .before .before .before .before .before .before .before .before .before .before .before .before .before .before .before .before .before .before .before .before .before .before .before .before .before .before .before .before .before .before .pre .route .whole) (returns c .kept)
+same-length-4 c =
+    let at-prune = c .before .before .before .before .before .before .before .before in
+    let entry = at-prune .before .before .before .before .before .before .before .before .before .before .before .before .before .before .before .before .before .before .before .before .before .before .before .before .before in
+    let lent = memoryOf (entry .args .lo .now) (entry .args .hi .now) (entry .args .up .now) (entry .args .hop .now) in
+    let after-prune = memoryOf (at-prune .prune .last .0) (at-prune .prune .last .1 .0) (at-prune .prune .last .1 .1 .0) (at-prune .prune .last .1 .1 .1 .0) in
+    kept-hop lent after-prune (entry .pre .route .whole) (returns c .kept)
 
 add-depth : tie.Need-add-depth Inv-loop μ-loop
 add-depth c = search needs
@@ -51,11 +102,26 @@ loop-less : tie.Need-loop-less Inv-loop μ-loop
 loop-less c = omega arith
 
 loop-again : tie.Need-loop-again Inv-loop μ-loop
-loop-again c = go-on (c .before .before .before .before .before .before .before .before .before .before .before .before .before .before .before .before .before .before .before .before .args .width) (memoryOf (c .before .before .before .before .before .before .before .before .before .before .before .before .before .before .before .before .before .before .before .before .args .lo .now) (c .before .before .before .before .before .before .before .before .before .before .before .before .before .before .before .before .before .before .before .before .args .hi .now) (c .before .before .before .before .before .before .before .before .before .before .before .before .before .before .before .before .before .before .before .before .args .up .now) (c .before .before .before .before .before .before .before .before .before .before .before .before .before .before .before .before .before .before .before .before .args .hop .now)) (memoryOf (c .before .before .before .before .before .before .before .before .before .before .before .before .before .before .before .loop .lo) (c .before .before .before .before .before .before .before .before .before .before .before .before .before .before .before .loop .hi) (c .before .before .before .before .before .before .before .before .before .before .before .before .before .before .before .loop .up) (c .before .before .before .before .before .before .before .before .before .before .before .before .before .before .before .loop .hop)) (pathBit (c .before .before .before .before .before .before .before .before .before .before .before .before .before .before .before .before .before .before .before .before .args .path)) (c .before .before .before .before .before .before .before .before .before .before .before .before .before .before .before .before .before .before .before .before .args .size) (c .before .before .before .before .before .before .before .before .before .before .before .before .before .before .before .before .before .before .before .before .args .neighbour) (c .before .before .before .before .before .before .before .before .before .before .before .before .before .before .before .before .before .before .before .before .pre) (c .before .before .before .before .before .before .before .before .before .before .before .before .before .before .before .loop .depth) (c .before .before .before .before .before .before .before .before .before .before .before .before .before .before .before .loop .slot) (c .before .before .before .before .before .before .before .before .before .before .before .before .before .before .before .loop .inv .0) (c .before .before .before .before .before .before .before .before .before .before .before .before .before .before .before .loop .inv .1) (memoryOf (c .before .before .before .before .before .before .before .before .before .extend .last .0) (c .before .before .before .before .before .before .before .before .before .extend .last .1 .0) (c .before .before .before .before .before .before .before .before .before .extend .last .1 .1 .0) (c .before .before .before .before .before .before .before .before .before .extend .last .1 .1 .1 .0)) (c .before .before .before .before .before .before .before .before .before .extend .result)
-    (step-taken (c .before .before .before .before .before .before .before .before .before .before .before .before .before .before .before .before .before .before .before .before .args .width) (memoryOf (c .before .before .before .before .before .before .before .before .before .before .before .before .before .before .before .loop .lo) (c .before .before .before .before .before .before .before .before .before .before .before .before .before .before .before .loop .hi) (c .before .before .before .before .before .before .before .before .before .before .before .before .before .before .before .loop .up) (c .before .before .before .before .before .before .before .before .before .before .before .before .before .before .before .loop .hop)) (memoryOf (c .before .before .before .before .before .before .before .before .before .extend .last .0) (c .before .before .before .before .before .before .before .before .before .extend .last .1 .0) (c .before .before .before .before .before .before .before .before .before .extend .last .1 .1 .0) (c .before .before .before .before .before .before .before .before .before .extend .last .1 .1 .1 .0)) (pathBit (c .before .before .before .before .before .before .before .before .before .before .before .before .before .before .before .before .before .before .before .before .args .path)) (c .before .before .before .before .before .before .before .before .before .before .before .before .before .before .before .loop .depth) (c .before .before .before .before .before .before .before .before .before .before .before .before .before .before .before .loop .slot) (c .before .before .before .before .before .before .before .before .before .extend .result) (c .before .before .before .before .before .before .before .before .before .extend .ensures) (c .if1 .left)) (c .before .before .before .before .before .before .before .before .before .before .before .before .before .before .loop-test .taken)
+loop-again c =
+    let at-extend = c .before .before .before .before .before .before .before .before .before in
+    let at-loop-test = at-extend .before .before .before .before .before in
+    let turn = at-loop-test .before in
+    let entry = turn .before .before .before .before .before in
+    let lent = memoryOf (entry .args .lo .now) (entry .args .hi .now) (entry .args .up .now) (entry .args .hop .now) in
+    let held = memoryOf (turn .loop .lo) (turn .loop .hi) (turn .loop .up) (turn .loop .hop) in
+    let after-extend = memoryOf (at-extend .extend .last .0) (at-extend .extend .last .1 .0) (at-extend .extend .last .1 .1 .0) (at-extend .extend .last .1 .1 .1 .0) in
+    let bits = pathBit (entry .args .path) in
+    go-on (entry .args .width) lent held bits (entry .args .size) (entry .args .neighbour) (entry .pre)
+    (turn .loop .depth) (turn .loop .slot) (turn .loop .inv .0) (turn .loop .inv .1) after-extend
+    (at-extend .extend .result)
+    (step-taken (entry .args .width) held after-extend bits (turn .loop .depth) (turn .loop .slot)
+    (at-extend .extend .result) (at-extend .extend .ensures) (c .if1 .left))
+    (at-loop-test .loop-test .taken)
 
 add-hop : tie.Need-add-hop Inv-loop μ-loop
-add-hop c = omega (arith, c .before .before .before .before .before .before .pre .high)
+add-hop c =
+    let entry = c .before .before .before .before .before .before in
+    omega (arith, entry .pre .high)
 
 mul-hop : tie.Need-mul-hop Inv-loop μ-loop
 mul-hop c = omega (arith, c .before .loop .inv .1 .below, c .before .loop .inv .1 .route .whole .hops)
@@ -64,19 +130,41 @@ slice-write-hop : tie.Need-slice-write-hop Inv-loop μ-loop
 slice-write-hop c = omega (arith, c .before .loop .inv .1 .below, c .before .loop .inv .1 .route .whole .hops)
 
 returns-2 : tie.Need-returns-2 Inv-loop μ-loop
-returns-2 c = announce-taken (c .before .before .before .before .before .before .args .width) (memoryOf (c .before .before .before .before .before .before .args .lo .now) (c .before .before .before .before .before .before .args .hi .now) (c .before .before .before .before .before .before .args .up .now) (c .before .before .before .before .before .before .args .hop .now)) (memoryOf (c .before .loop .lo) (c .before .loop .hi) (c .before .loop .up) (c .before .loop .hop)) (pathBit (c .before .before .before .before .before .before .args .path)) (c .before .before .before .before .before .before .args .size) (c .before .before .before .before .before .before .args .neighbour) (c .before .before .before .before .before .before .pre) (c .before .loop .depth) (c .before .loop .slot) (c .before .loop .inv .0) (c .before .loop .inv .1) (omega (arith, c .loop-test .left, c .before .loop .inv .2))
+returns-2 c =
+    let entry = c .before .before .before .before .before .before in
+    let lent = memoryOf (entry .args .lo .now) (entry .args .hi .now) (entry .args .up .now) (entry .args .hop .now) in
+    let held = memoryOf (c .before .loop .lo) (c .before .loop .hi) (c .before .loop .up) (c .before .loop .hop) in
+    let bits = pathBit (entry .args .path) in
+    announce-taken (entry .args .width) lent held bits (entry .args .size) (entry .args .neighbour) (entry .pre)
+    (c .before .loop .depth) (c .before .loop .slot) (c .before .loop .inv .0) (c .before .loop .inv .1)
+    (omega (arith, c .loop-test .left, c .before .loop .inv .2))
 
 same-length-5 : tie.Need-same-length-5 Inv-loop μ-loop
-same-length-5 c = kept-lo (memoryOf (c .before .before .before .before .before .before .args .lo .now) (c .before .before .before .before .before .before .args .hi .now) (c .before .before .before .before .before .before .args .up .now) (c .before .before .before .before .before .before .args .hop .now)) (rehop (memoryOf (c .before .loop .lo) (c .before .loop .hi) (c .before .loop .up) (c .before .loop .hop)) (c .before .loop .slot) (c .before .before .before .before .before .before .args .neighbour + 1)) (c .before .before .before .before .before .before .pre .route .whole) (returns-2 c .kept)
+same-length-5 c =
+    let entry = c .before .before .before .before .before .before in
+    let lent = memoryOf (entry .args .lo .now) (entry .args .hi .now) (entry .args .up .now) (entry .args .hop .now) in
+    let held = memoryOf (c .before .loop .lo) (c .before .loop .hi) (c .before .loop .up) (c .before .loop .hop) in
+    kept-lo lent (rehop held (c .before .loop .slot) (entry .args .neighbour + 1)) (entry .pre .route .whole)
+    (returns-2 c .kept)
 
 same-length-6 : tie.Need-same-length-6 Inv-loop μ-loop
-same-length-6 c = kept-hi (memoryOf (c .before .before .before .before .before .before .args .lo .now) (c .before .before .before .before .before .before .args .hi .now) (c .before .before .before .before .before .before .args .up .now) (c .before .before .before .before .before .before .args .hop .now)) (rehop (memoryOf (c .before .loop .lo) (c .before .loop .hi) (c .before .loop .up) (c .before .loop .hop)) (c .before .loop .slot) (c .before .before .before .before .before .before .args .neighbour + 1)) (c .before .before .before .before .before .before .pre .route .whole) (returns-2 c .kept)
+same-length-6 c =
+    let entry = c .before .before .before .before .before .before in
+    let lent = memoryOf (entry .args .lo .now) (entry .args .hi .now) (entry .args .up .now) (entry .args .hop .now) in
+    let held = memoryOf (c .before .loop .lo) (c .before .loop .hi) (c .before .loop .up) (c .before .loop .hop) in
+    kept-hi lent (rehop held (c .before .loop .slot) (entry .args .neighbour + 1)) (entry .pre .route .whole)
+    (returns-2 c .kept)
 
 same-length-7 : tie.Need-same-length-7 Inv-loop μ-loop
 same-length-7 c = returns-2 c .kept .same-slots
 
 same-length-8 : tie.Need-same-length-8 Inv-loop μ-loop
-same-length-8 c = kept-hop (memoryOf (c .before .before .before .before .before .before .args .lo .now) (c .before .before .before .before .before .before .args .hi .now) (c .before .before .before .before .before .before .args .up .now) (c .before .before .before .before .before .before .args .hop .now)) (rehop (memoryOf (c .before .loop .lo) (c .before .loop .hi) (c .before .loop .up) (c .before .loop .hop)) (c .before .loop .slot) (c .before .before .before .before .before .before .args .neighbour + 1)) (c .before .before .before .before .before .before .pre .route .whole) (returns-2 c .kept)
+same-length-8 c =
+    let entry = c .before .before .before .before .before .before in
+    let lent = memoryOf (entry .args .lo .now) (entry .args .hi .now) (entry .args .up .now) (entry .args .hop .now) in
+    let held = memoryOf (c .before .loop .lo) (c .before .loop .hi) (c .before .loop .up) (c .before .loop .hop) in
+    kept-hop lent (rehop held (c .before .loop .slot) (entry .args .neighbour + 1)) (entry .pre .route .whole)
+    (returns-2 c .kept)
 
 pub announce-spec : {M : Type 1} → statement M
 announce-spec =

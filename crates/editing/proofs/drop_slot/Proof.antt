@@ -50,10 +50,18 @@ set-link-requires : tie.Need-set-link-requires
 set-link-requires c κs = search needs
 
 same-length : tie.Need-same-length
-same-length c = c .before .before .before .before .set-link .ensures .los ∙ length-set (c .before .before .before .before .before .before .before .before .before .before .before .before .before .args .lo .now) (c .before .before .before .before .before .before .before .before .before .before .before .before .before .args .slot) (c .before .before .before .before .before .before .before .first-free .result)
+same-length c =
+    let at-set-link = c .before .before .before .before in
+    let at-first-free = at-set-link .before .before .before in
+    let entry = at-first-free .before .before .before .before .before .before in
+    at-set-link .set-link .ensures .los ∙ length-set (entry .args .lo .now) (entry .args .slot)
+    (at-first-free .first-free .result)
 
 same-length-2 : tie.Need-same-length-2
-same-length-2 c = c .before .before .before .before .set-link .ensures .his ∙ length-set (c .before .before .before .before .before .before .before .before .before .before .before .before .before .args .hi .now) (c .before .before .before .before .before .before .before .before .before .before .before .before .before .args .slot) 0
+same-length-2 c =
+    let at-set-link = c .before .before .before .before in
+    let entry = at-set-link .before .before .before .before .before .before .before .before .before in
+    at-set-link .set-link .ensures .his ∙ length-set (entry .args .hi .now) (entry .args .slot) 0
 
 same-length-3 : tie.Need-same-length-3
 same-length-3 c = search needs
@@ -62,9 +70,15 @@ same-length-4 : tie.Need-same-length-4
 same-length-4 c = search needs
 
 returns : tie.Need-returns
-returns c = stores-drop (c .before .before .before .before .before .before .before .before .before .before .before .before .before .args .lo .now) (c .before .before .before .before .before .before .before .before .before .before .before .before .before .args .hi .now) (c .before .before .before .before .before .before .before .before .before .before .before .before .before .args .up .now) (c .before .before .before .before .before .before .before .before .before .before .before .before .before .args .hop .now) (c .before .before .before .before .before .before .before .before .before .before .before .before .before .args .parent) (c .before .before .before .before .before .before .before .before .before .before .before .before .before .args .right) (c .before .before .before .before .before .before .before .before .before .before .before .before .before .args .slot) (c .before .before .before .before .before .before .before .first-free .result) (c .before .before .before .before .before .before .before .before .before .before .before .before .before .args .slot) 0 0
-    (c .before .before .before .before .set-link .last .0) (c .before .before .before .before .set-link .last .1 .0) (c .before .before .before .before .before .before .before .before .before .before .before .before .before .pre .0) (c .before .before .before .before .before .before .before .before .before .before .before .before .before .pre .1) (c .before .before .before .before .before .before .before .before .before .before .before .before .before .pre .2) (c .before .before .before .before .before .before .before .before .before .before .before .before .before .pre .3) (c .before .before .before .before .before .before .before .before .before .before .before .before .before .pre .4) (c .before .before .before .before .set-link .ensures)
-    (λ h. omega (arith, c .before .before .before .before .before .before .before .before .before .before .before .before .before .pre .3)) refl refl refl (c .before .before .before .before .before .before .before .first-free .ensures .0)
+returns c =
+    let at-set-link = c .before .before .before .before in
+    let at-first-free = at-set-link .before .before .before in
+    let entry = at-first-free .before .before .before .before .before .before in
+    stores-drop (entry .args .lo .now) (entry .args .hi .now) (entry .args .up .now) (entry .args .hop .now)
+    (entry .args .parent) (entry .args .right) (entry .args .slot) (at-first-free .first-free .result)
+    (entry .args .slot) 0 0 (at-set-link .set-link .last .0) (at-set-link .set-link .last .1 .0) (entry .pre .0)
+    (entry .pre .1) (entry .pre .2) (entry .pre .3) (entry .pre .4) (at-set-link .set-link .ensures)
+    (λ h. omega (arith, entry .pre .3)) refl refl refl (at-first-free .first-free .ensures .0)
 
 pub drop-slot-spec : {M : Type 1} → statement M
 drop-slot-spec =

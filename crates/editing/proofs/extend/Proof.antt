@@ -23,7 +23,15 @@ same-length-3 : tie.Need-same-length-3
 same-length-3 c = search needs
 
 returns : tie.Need-returns
-returns c = inl (step-there (c .before .before .before .before .before .before .before .before .before .before .args .width) (memoryOf (c .before .before .before .before .before .before .before .before .before .before .args .lo .now) (c .before .before .before .before .before .before .before .before .before .before .args .hi .now) (c .before .before .before .before .before .before .before .before .before .before .args .up .now) (c .before .before .before .before .before .before .before .before .before .before .args .hop .now)) (pathBit (c .before .before .before .before .before .before .before .before .before .before .args .path)) (c .before .before .before .before .before .before .before .before .before .before .args .depth) (c .before .before .before .before .before .before .before .before .before .before .args .slot) (c .before .before .before .before .before .before .before .before .before .before .pre .0) (c .before .before .before .before .before .before .before .before .before .before .pre .1) (c .before .before .before .before .before .bit .result) (c .before .child-of .result) (c .before .before .before .before .before .bit .ensures) (c .before .child-of .ensures) (c .if1 .taken))
+returns c =
+    let at-bit = c .before .before .before .before .before in
+    let entry = at-bit .before .before .before .before .before in
+    let lent = memoryOf (entry .args .lo .now) (entry .args .hi .now) (entry .args .up .now) (entry .args .hop .now) in
+    let bits = pathBit (entry .args .path) in
+    inl
+    (step-there (entry .args .width) lent bits (entry .args .depth) (entry .args .slot) (entry .pre .0) (entry .pre .1)
+    (at-bit .bit .result) (c .before .child-of .result) (at-bit .bit .ensures) (c .before .child-of .ensures)
+    (c .if1 .taken))
 
 spare-requires : tie.Need-spare-requires
 spare-requires c κs = search needs
@@ -41,11 +49,33 @@ same-length-7 : tie.Need-same-length-7
 same-length-7 c = search needs
 
 returns-2 : tie.Need-returns-2
-returns-2 c = inr (step-stuck (c .before .before .before .before .before .before .before .before .before .before .before .before .before .before .before .before .args .width) (memoryOf (c .before .before .before .before .before .before .before .before .before .before .before .before .before .before .before .before .args .lo .now) (c .before .before .before .before .before .before .before .before .before .before .before .before .before .before .before .before .args .hi .now) (c .before .before .before .before .before .before .before .before .before .before .before .before .before .before .before .before .args .up .now) (c .before .before .before .before .before .before .before .before .before .before .before .before .before .before .before .before .args .hop .now)) (pathBit (c .before .before .before .before .before .before .before .before .before .before .before .before .before .before .before .before .args .path)) (c .before .before .before .before .before .before .before .before .before .before .before .before .before .before .before .before .args .depth) (c .before .before .before .before .before .before .before .before .before .before .before .before .before .before .before .before .args .slot) (c .before .before .before .before .before .before .before .before .before .before .before .before .before .before .before .before .pre .0) (c .before .before .before .before .before .before .before .before .before .before .before .before .before .before .before .before .pre .1) (c .before .before .before .before .before .before .before .before .before .before .before .bit .result) (c .before .before .before .before .before .before .before .child-of .result) (c .before .before .before .before .before .before .before .before .before .before .before .bit .ensures) (c .before .before .before .before .before .before .before .child-of .ensures) (c .before .before .before .before .before .before .if1 .left) (c .before .spare .result) (c .before .spare .ensures) (c .if2 .taken))
+returns-2 c =
+    let at-if1 = c .before .before .before .before .before .before in
+    let at-child-of = at-if1 .before in
+    let at-bit = at-child-of .before .before .before .before in
+    let entry = at-bit .before .before .before .before .before in
+    let lent = memoryOf (entry .args .lo .now) (entry .args .hi .now) (entry .args .up .now) (entry .args .hop .now) in
+    let bits = pathBit (entry .args .path) in
+    inr
+    (step-stuck (entry .args .width) lent bits (entry .args .depth) (entry .args .slot) (entry .pre .0) (entry .pre .1)
+    (at-bit .bit .result) (at-child-of .child-of .result) (at-bit .bit .ensures) (at-child-of .child-of .ensures)
+    (at-if1 .if1 .left) (c .before .spare .result) (c .before .spare .ensures) (c .if2 .taken))
 
 hang-requires : tie.Need-hang-requires
-hang-requires c κs = let free = step-free (c .before .before .before .before .before .before .before .before .before .before .before .before .before .before .before .before .before .before .before .before .args .width) (memoryOf (c .before .before .before .before .before .before .before .before .before .before .before .before .before .before .before .before .before .before .before .before .args .lo .now) (c .before .before .before .before .before .before .before .before .before .before .before .before .before .before .before .before .before .before .before .before .args .hi .now) (c .before .before .before .before .before .before .before .before .before .before .before .before .before .before .before .before .before .before .before .before .args .up .now) (c .before .before .before .before .before .before .before .before .before .before .before .before .before .before .before .before .before .before .before .before .args .hop .now)) (pathBit (c .before .before .before .before .before .before .before .before .before .before .before .before .before .before .before .before .before .before .before .before .args .path)) (c .before .before .before .before .before .before .before .before .before .before .before .before .before .before .before .before .before .before .before .before .args .depth) (c .before .before .before .before .before .before .before .before .before .before .before .before .before .before .before .before .before .before .before .before .args .slot) (c .before .before .before .before .before .before .before .before .before .before .before .before .before .before .before .before .before .before .before .before .pre .0) (c .before .before .before .before .before .before .before .before .before .before .before .before .before .before .before .before .before .before .before .before .pre .1) (c .before .before .before .before .before .before .before .before .before .before .before .before .before .before .before .bit .result) (c .before .before .before .before .before .before .before .before .before .before .before .child-of .result) (c .before .before .before .before .before .before .before .before .before .before .before .before .before .before .before .bit .ensures) (c .before .before .before .before .before .before .before .before .before .before .before .child-of .ensures) (c .before .before .before .before .before .before .before .before .before .before .if1 .left) (c .before .before .before .before .before .spare .result) (c .before .before .before .before .before .spare .ensures) (c .before .before .before .before .if2 .left) in
-    (c .before .before .before .before .before .before .before .before .before .before .before .before .before .before .before .before .before .before .before .before .pre .0 .route .whole, c .before .before .before .before .before .before .before .before .before .before .before .before .before .before .before .before .before .before .before .before .pre .0 .below, free .positive, free .slot, free .other)
+hang-requires c κs =
+    let at-if2 = c .before .before .before .before in
+    let at-spare = at-if2 .before in
+    let at-if1 = at-spare .before .before .before .before .before in
+    let at-child-of = at-if1 .before in
+    let at-bit = at-child-of .before .before .before .before in
+    let entry = at-bit .before .before .before .before .before in
+    let lent = memoryOf (entry .args .lo .now) (entry .args .hi .now) (entry .args .up .now) (entry .args .hop .now) in
+    let bits = pathBit (entry .args .path) in
+    let free = step-free (entry .args .width) lent bits (entry .args .depth) (entry .args .slot) (entry .pre .0)
+    (entry .pre .1) (at-bit .bit .result) (at-child-of .child-of .result) (at-bit .bit .ensures)
+    (at-child-of .child-of .ensures) (at-if1 .if1 .left) (at-spare .spare .result) (at-spare .spare .ensures)
+    (at-if2 .if2 .left) in
+    (entry .pre .0 .route .whole, entry .pre .0 .below, free .positive, free .slot, free .other)
 
 same-length-8 : tie.Need-same-length-8
 same-length-8 c = search needs
@@ -60,10 +90,25 @@ same-length-11 : tie.Need-same-length-11
 same-length-11 c = search needs
 
 returns-3 : tie.Need-returns-3
-returns-3 c = inl (step-hung (c .before .before .before .before .before .before .before .before .before .before .before .before .before .before .before .before .before .before .before .before .before .before .before .before .before .before .before .before .before .args .width) (memoryOf (c .before .before .before .before .before .before .before .before .before .before .before .before .before .before .before .before .before .before .before .before .before .before .before .before .before .before .before .before .before .args .lo .now) (c .before .before .before .before .before .before .before .before .before .before .before .before .before .before .before .before .before .before .before .before .before .before .before .before .before .before .before .before .before .args .hi .now) (c .before .before .before .before .before .before .before .before .before .before .before .before .before .before .before .before .before .before .before .before .before .before .before .before .before .before .before .before .before .args .up .now) (c .before .before .before .before .before .before .before .before .before .before .before .before .before .before .before .before .before .before .before .before .before .before .before .before .before .before .before .before .before .args .hop .now)) (pathBit (c .before .before .before .before .before .before .before .before .before .before .before .before .before .before .before .before .before .before .before .before .before .before .before .before .before .before .before .before .before .args .path)) (c .before .before .before .before .before .before .before .before .before .before .before .before .before .before .before .before .before .before .before .before .before .before .before .before .before .before .before .before .before .args .depth) (c .before .before .before .before .before .before .before .before .before .before .before .before .before .before .before .before .before .before .before .before .before .before .before .before .before .before .before .before .before .args .slot) (c .before .before .before .before .before .before .before .before .before .before .before .before .before .before .before .before .before .before .before .before .before .before .before .before .before .before .before .before .before .pre .0) (c .before .before .before .before .before .before .before .before .before .before .before .before .before .before .before .before .before .before .before .before .before .before .before .before .before .before .before .before .before .pre .1) (c .before .before .before .before .before .before .before .before .before .before .before .before .before .before .before .before .before .before .before .before .before .before .before .before .bit .result) (c .before .before .before .before .before .before .before .before .before .before .before .before .before .before .before .before .before .before .before .before .child-of .result) (c .before .before .before .before .before .before .before .before .before .before .before .before .before .before .before .before .before .before .before .before .before .before .before .before .bit .ensures) (c .before .before .before .before .before .before .before .before .before .before .before .before .before .before .before .before .before .before .before .before .child-of .ensures) (c .before .before .before .before .before .before .before .before .before .before .before .before .before .before .before .before .before .before .before .if1 .left)
-    (memoryOf (c .before .before .before .before .before .before .before .before .hang .last .0) (c .before .before .before .before .before .before .before .before .hang .last .1 .0) (c .before .before .before .before .before .before .before .before .hang .last .1 .1 .0) (c .before .before .before .before .before .before .before .before .hang .last .1 .1 .1 .0)) (c .before .before .before .before .before .before .before .before .before .before .before .before .before .before .spare .result)
-    (step-free (c .before .before .before .before .before .before .before .before .before .before .before .before .before .before .before .before .before .before .before .before .before .before .before .before .before .before .before .before .before .args .width) (memoryOf (c .before .before .before .before .before .before .before .before .before .before .before .before .before .before .before .before .before .before .before .before .before .before .before .before .before .before .before .before .before .args .lo .now) (c .before .before .before .before .before .before .before .before .before .before .before .before .before .before .before .before .before .before .before .before .before .before .before .before .before .before .before .before .before .args .hi .now) (c .before .before .before .before .before .before .before .before .before .before .before .before .before .before .before .before .before .before .before .before .before .before .before .before .before .before .before .before .before .args .up .now) (c .before .before .before .before .before .before .before .before .before .before .before .before .before .before .before .before .before .before .before .before .before .before .before .before .before .before .before .before .before .args .hop .now)) (pathBit (c .before .before .before .before .before .before .before .before .before .before .before .before .before .before .before .before .before .before .before .before .before .before .before .before .before .before .before .before .before .args .path)) (c .before .before .before .before .before .before .before .before .before .before .before .before .before .before .before .before .before .before .before .before .before .before .before .before .before .before .before .before .before .args .depth) (c .before .before .before .before .before .before .before .before .before .before .before .before .before .before .before .before .before .before .before .before .before .before .before .before .before .before .before .before .before .args .slot) (c .before .before .before .before .before .before .before .before .before .before .before .before .before .before .before .before .before .before .before .before .before .before .before .before .before .before .before .before .before .pre .0) (c .before .before .before .before .before .before .before .before .before .before .before .before .before .before .before .before .before .before .before .before .before .before .before .before .before .before .before .before .before .pre .1) (c .before .before .before .before .before .before .before .before .before .before .before .before .before .before .before .before .before .before .before .before .before .before .before .before .bit .result) (c .before .before .before .before .before .before .before .before .before .before .before .before .before .before .before .before .before .before .before .before .child-of .result) (c .before .before .before .before .before .before .before .before .before .before .before .before .before .before .before .before .before .before .before .before .before .before .before .before .bit .ensures) (c .before .before .before .before .before .before .before .before .before .before .before .before .before .before .before .before .before .before .before .before .child-of .ensures) (c .before .before .before .before .before .before .before .before .before .before .before .before .before .before .before .before .before .before .before .if1 .left) (c .before .before .before .before .before .before .before .before .before .before .before .before .before .before .spare .result) (c .before .before .before .before .before .before .before .before .before .before .before .before .before .before .spare .ensures) (c .before .before .before .before .before .before .before .before .before .before .before .before .before .if2 .left))
-    (c .before .before .before .before .before .before .before .before .hang .ensures))
+returns-3 c =
+    let at-hang = c .before .before .before .before .before .before .before .before in
+    let at-if2 = at-hang .before .before .before .before .before in
+    let at-spare = at-if2 .before in
+    let at-if1 = at-spare .before .before .before .before .before in
+    let at-child-of = at-if1 .before in
+    let at-bit = at-child-of .before .before .before .before in
+    let entry = at-bit .before .before .before .before .before in
+    let lent = memoryOf (entry .args .lo .now) (entry .args .hi .now) (entry .args .up .now) (entry .args .hop .now) in
+    let after-hang = memoryOf (at-hang .hang .last .0) (at-hang .hang .last .1 .0) (at-hang .hang .last .1 .1 .0) (at-hang .hang .last .1 .1 .1 .0) in
+    let bits = pathBit (entry .args .path) in
+    inl
+    (step-hung (entry .args .width) lent bits (entry .args .depth) (entry .args .slot) (entry .pre .0) (entry .pre .1)
+    (at-bit .bit .result) (at-child-of .child-of .result) (at-bit .bit .ensures) (at-child-of .child-of .ensures)
+    (at-if1 .if1 .left) after-hang (at-spare .spare .result)
+    (step-free (entry .args .width) lent bits (entry .args .depth) (entry .args .slot) (entry .pre .0) (entry .pre .1)
+    (at-bit .bit .result) (at-child-of .child-of .result) (at-bit .bit .ensures) (at-child-of .child-of .ensures)
+    (at-if1 .if1 .left) (at-spare .spare .result) (at-spare .spare .ensures) (at-if2 .if2 .left))
+    (at-hang .hang .ensures))
 
 pub extend-spec : {M : Type 1} → statement M
 extend-spec =

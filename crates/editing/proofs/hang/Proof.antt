@@ -28,7 +28,15 @@ mark-of-requires : tie.Need-mark-of-requires
 mark-of-requires c κs = search needs
 
 cast-up : tie.Need-cast-up
-cast-up c = omega (arith, c .mark-of .ensures, mark-bound (c .before .before .before .before .before .before .before .before .args .parent) (c .before .before .before .before .before .before .before .before .args .right), c .before .before .before .before .before .before .before .before .pre .1, c .before .before .before .before .before .before .before .before .pre .0 .shaped .few)
+cast-up c =
+    let entry = c .before .before .before .before .before .before .before .before in
+    omega (
+      arith,
+      c .mark-of .ensures,
+      mark-bound (entry .args .parent) (entry .args .right),
+      entry .pre .1,
+      entry .pre .0 .shaped .few,
+    )
 
 mul-up : tie.Need-mul-up
 mul-up c = search needs
@@ -61,10 +69,16 @@ set-link-requires : tie.Need-set-link-requires
 set-link-requires c κs = search needs
 
 same-length : tie.Need-same-length
-same-length c = c .before .before .before .before .set-link .ensures .los ∙ length-set (c .before .before .before .before .before .before .before .before .before .before .before .before .before .before .before .args .lo .now) (c .before .before .before .before .before .before .before .before .before .before .before .before .before .before .before .args .slot) 0
+same-length c =
+    let at-set-link = c .before .before .before .before in
+    let entry = at-set-link .before .before .before .before .before .before .before .before .before .before .before in
+    at-set-link .set-link .ensures .los ∙ length-set (entry .args .lo .now) (entry .args .slot) 0
 
 same-length-2 : tie.Need-same-length-2
-same-length-2 c = c .before .before .before .before .set-link .ensures .his ∙ length-set (c .before .before .before .before .before .before .before .before .before .before .before .before .before .before .before .args .hi .now) (c .before .before .before .before .before .before .before .before .before .before .before .before .before .before .before .args .slot) 0
+same-length-2 c =
+    let at-set-link = c .before .before .before .before in
+    let entry = at-set-link .before .before .before .before .before .before .before .before .before .before .before in
+    at-set-link .set-link .ensures .his ∙ length-set (entry .args .hi .now) (entry .args .slot) 0
 
 same-length-3 : tie.Need-same-length-3
 same-length-3 c = search needs
@@ -74,12 +88,27 @@ same-length-4 c = search needs
 
 returns : tie.Need-returns
 returns c =
-    let onwards : c .before .before .before .before .before .before .before .before .head-after .result ≡ headAfter (getD (c .before .before .before .before .before .before .before .before .before .before .before .before .before .before .before .args .up .now) 0 0) (c .before .before .before .before .before .before .before .before .before .before .before .before .before .before .before .args .slot) (getD (c .before .before .before .before .before .before .before .before .before .before .before .before .before .before .before .args .lo .now) (c .before .before .before .before .before .before .before .before .before .before .before .before .before .before .before .args .slot) 0) (length (c .before .before .before .before .before .before .before .before .before .before .before .before .before .before .before .args .up .now)) =
-        c .before .before .before .before .before .before .before .before .head-after .ensures ∙ ap (headAfter (getD (c .before .before .before .before .before .before .before .before .before .before .before .before .before .before .before .args .up .now) 0 0) (c .before .before .before .before .before .before .before .before .before .before .before .before .before .before .before .args .slot) (getD (c .before .before .before .before .before .before .before .before .before .before .before .before .before .before .before .args .lo .now) (c .before .before .before .before .before .before .before .before .before .before .before .before .before .before .before .args .slot) 0)) (c .before .before .before .before .before .before .before .before .before .before .before .before .before .before .before .pre .0 .shaped .los) in
-    stores-hang (c .before .before .before .before .before .before .before .before .before .before .before .before .before .before .before .args .lo .now) (c .before .before .before .before .before .before .before .before .before .before .before .before .before .before .before .args .hi .now) (c .before .before .before .before .before .before .before .before .before .before .before .before .before .before .before .args .up .now) (c .before .before .before .before .before .before .before .before .before .before .before .before .before .before .before .args .hop .now) (c .before .before .before .before .before .before .before .before .before .before .before .before .before .before .before .args .parent) (c .before .before .before .before .before .before .before .before .before .before .before .before .before .before .before .args .right) (c .before .before .before .before .before .before .before .before .before .before .before .before .before .before .before .args .slot) 0 (c .before .before .before .before .before .before .before .before .head-after .result) (c .before .before .before .before .before .before .before .mark-of .result) (c .before .before .before .before .before .before .before .before .before .before .before .before .before .before .before .args .slot)
-    (c .before .before .before .before .set-link .last .0) (c .before .before .before .before .set-link .last .1 .0) (c .before .before .before .before .before .before .before .before .before .before .before .before .before .before .before .pre .0) (c .before .before .before .before .before .before .before .before .before .before .before .before .before .before .before .pre .1) (c .before .before .before .before .before .before .before .before .before .before .before .before .before .before .before .pre .2) (c .before .before .before .before .before .before .before .before .before .before .before .before .before .before .before .pre .3) (c .before .before .before .before .before .before .before .before .before .before .before .before .before .before .before .pre .4) (c .before .before .before .before .set-link .ensures)
-    (λ h. omega (arith, onwards, head-bound (getD (c .before .before .before .before .before .before .before .before .before .before .before .before .before .before .before .args .up .now) 0 0) (c .before .before .before .before .before .before .before .before .before .before .before .before .before .before .before .args .slot) (getD (c .before .before .before .before .before .before .before .before .before .before .before .before .before .before .before .args .lo .now) (c .before .before .before .before .before .before .before .before .before .before .before .before .before .before .before .args .slot) 0) (length (c .before .before .before .before .before .before .before .before .before .before .before .before .before .before .before .args .up .now)) h))
-    refl (c .before .before .before .before .before .before .before .mark-of .ensures) refl onwards
+    let at-set-link = c .before .before .before .before in
+    let at-mark-of = at-set-link .before .before .before in
+    let at-head-after = at-mark-of .before in
+    let entry = at-head-after .before .before .before .before .before .before .before in
+    let onwards : at-head-after .head-after .result ≡ headAfter (getD (entry .args .up .now) 0 0) (entry .args .slot)
+    (getD (entry .args .lo .now) (entry .args .slot) 0) (length (entry .args .up .now)) =
+    at-head-after .head-after .ensures ∙ ap
+    (headAfter (getD (entry .args .up .now) 0 0) (entry .args .slot)
+    (getD (entry .args .lo .now) (entry .args .slot) 0))
+    (entry .pre .0 .shaped .los) in stores-hang (entry .args .lo .now) (entry .args .hi .now) (entry .args .up .now)
+    (entry .args .hop .now) (entry .args .parent) (entry .args .right) (entry .args .slot) 0
+    (at-head-after .head-after .result) (at-mark-of .mark-of .result) (entry .args .slot)
+    (at-set-link .set-link .last .0) (at-set-link .set-link .last .1 .0) (entry .pre .0) (entry .pre .1)
+    (entry .pre .2) (entry .pre .3) (entry .pre .4) (at-set-link .set-link .ensures)
+    (λ h. omega (
+      arith,
+      onwards,
+      head-bound (getD (entry .args .up .now) 0 0) (entry .args .slot)
+          (getD (entry .args .lo .now) (entry .args .slot) 0) (length (entry .args .up .now)) h,
+    ))
+    refl (at-mark-of .mark-of .ensures) refl onwards
 
 pub hang-spec : {M : Type 1} → statement M
 hang-spec =

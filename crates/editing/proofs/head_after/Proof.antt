@@ -10,7 +10,11 @@ first-free-requires : tie.Need-first-free-requires
 first-free-requires c κs = search needs
 
 returns : tie.Need-returns
-returns c = sym (head-stays (c .before .before .args .head) (c .before .before .args .slot) (c .before .before .args .next) (c .before .before .args .count) (λ e. c .if1 .taken (c .before .first-free .ensures .0 ∙ e)))
+returns c =
+    let entry = c .before .before in
+    sym
+    (head-stays (entry .args .head) (entry .args .slot) (entry .args .next) (entry .args .count)
+    (λ e. c .if1 .taken (c .before .first-free .ensures .0 ∙ e)))
 
 next-free-requires : tie.Need-next-free-requires
 next-free-requires c κs = search needs
@@ -19,13 +23,23 @@ cast-result : tie.Need-cast-result
 cast-result c = search needs
 
 returns-2 : tie.Need-returns-2
-returns-2 c = c .before .next-free .ensures ∙ sym (head-on (c .before .before .before .before .args .head) (c .before .before .before .before .args .slot) (c .before .before .before .before .args .next) (c .before .before .before .before .args .count) (sym (c .before .before .before .first-free .ensures .0) ∙ c .before .before .if1 .left) (omega (arith, c .if2 .taken, c .before .next-free .ensures)))
+returns-2 c =
+    let entry = c .before .before .before .before in
+    c .before .next-free .ensures ∙ sym
+    (head-on (entry .args .head) (entry .args .slot) (entry .args .next) (entry .args .count)
+    (sym (c .before .before .before .first-free .ensures .0) ∙ c .before .before .if1 .left)
+    (omega (arith, c .if2 .taken, c .before .next-free .ensures)))
 
 cast-result-2 : tie.Need-cast-result-2
 cast-result-2 c = search needs
 
 returns-3 : tie.Need-returns-3
-returns-3 c = sym (head-ends (c .before .before .before .before .args .head) (c .before .before .before .before .args .slot) (c .before .before .before .before .args .next) (c .before .before .before .before .args .count) (sym (c .before .before .before .first-free .ensures .0) ∙ c .before .before .if1 .left) (omega (arith, c .if2 .left, c .before .next-free .ensures)))
+returns-3 c =
+    let entry = c .before .before .before .before in
+    sym
+    (head-ends (entry .args .head) (entry .args .slot) (entry .args .next) (entry .args .count)
+    (sym (c .before .before .before .first-free .ensures .0) ∙ c .before .before .if1 .left)
+    (omega (arith, c .if2 .left, c .before .next-free .ensures)))
 
 pub head-after-spec : {M : Type 1} → statement M
 head-after-spec =

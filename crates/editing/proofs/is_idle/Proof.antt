@@ -10,7 +10,11 @@ steps-left-requires : tie.Need-steps-left-requires
 steps-left-requires c κs = search needs
 
 returns : tie.Need-returns
-returns c = sym (idle-unplaced (c .before .before .before .before .before .before .args .width) (memoryOf (c .before .before .before .before .before .before .args .lo .now) (c .before .before .before .before .before .before .args .hi .now) (c .before .before .before .before .before .before .args .up .now) (c .before .before .before .before .before .before .args .hop .now)) (c .before .before .before .before .before .before .args .slot) (sym (c .before .steps-left .ensures) ∙ c .if1 .taken))
+returns c =
+    let entry = c .before .before .before .before .before .before in
+    let lent = memoryOf (entry .args .lo .now) (entry .args .hi .now) (entry .args .up .now) (entry .args .hop .now) in
+    sym
+    (idle-unplaced (entry .args .width) lent (entry .args .slot) (sym (c .before .steps-left .ensures) ∙ c .if1 .taken))
 
 sub-is-bare : tie.Need-sub-is-bare
 sub-is-bare c = search needs
@@ -19,7 +23,13 @@ is-bare-requires : tie.Need-is-bare-requires
 is-bare-requires c κs = search needs
 
 returns-2 : tie.Need-returns-2
-returns-2 c = c .is-bare .ensures ∙ sym (idle-placed (c .before .before .before .before .before .before .before .args .width) (memoryOf (c .before .before .before .before .before .before .before .args .lo .now) (c .before .before .before .before .before .before .before .args .hi .now) (c .before .before .before .before .before .before .before .args .up .now) (c .before .before .before .before .before .before .before .args .hop .now)) (c .before .before .before .before .before .before .before .args .slot) (c .before .before .steps-left .result) (c .before .before .steps-left .ensures) (c .before .if1 .left))
+returns-2 c =
+    let at-steps-left = c .before .before in
+    let entry = at-steps-left .before .before .before .before .before in
+    let lent = memoryOf (entry .args .lo .now) (entry .args .hi .now) (entry .args .up .now) (entry .args .hop .now) in
+    c .is-bare .ensures ∙ sym
+    (idle-placed (entry .args .width) lent (entry .args .slot) (at-steps-left .steps-left .result)
+    (at-steps-left .steps-left .ensures) (c .before .if1 .left))
 
 pub is-idle-spec : {M : Type 1} → statement M
 is-idle-spec =

@@ -31,32 +31,31 @@ shared-slice-read-if3 : tie.Need-shared-slice-read-if3 Inv-loop μ-loop
 shared-slice-read-if3 c = search needs
 
 returns : tie.Need-returns Inv-loop μ-loop
-returns c = inl record {
-  positive = c .before .before .before .before .first-free .ensures .1;
-  slot = c .before .before .before .if1 .taken;
-  other = c .before .before .if2 .taken;
-  unused = idle-unmarked (c .before .before .before .before .before .before .before .before .before .before .args .width) (memoryOf (c .before .before .before .before .before .before .before .before .before .before .args .lo .now) (c .before .before .before .before .before .before .before .before .before .before .args .hi .now) (c .before .before .before .before .before .before .before .before .before .before .args .up .now) (c .before .before .before .before .before .before .before .before .before .before .args .hop .now)) (c .before .before .before .before .first-free .result) (c .before .before .before .before .first-free .ensures .1) (c .if3 .taken);
-  hinted = λ h. c .before .before .before .before .first-free .ensures .0;
-}
+returns c =
+    let at-first-free = c .before .before .before .before in
+    let entry = at-first-free .before .before .before .before .before .before in
+    let lent = memoryOf (entry .args .lo .now) (entry .args .hi .now) (entry .args .up .now) (entry .args .hop .now) in
+    inl record
+    { positive = at-first-free .first-free .ensures .1; slot = c .before .before .before .if1 .taken; other = c .before .before .if2 .taken; unused = idle-unmarked (entry .args .width) lent (at-first-free .first-free .result) (at-first-free .first-free .ensures .1) (c .if3 .taken); hinted = λ h. at-first-free .first-free .ensures .0 }
 
 loop-holds : tie.Need-loop-holds Inv-loop μ-loop
-loop-holds c = (omega arith, omega (arith, c .before .before .before .before .before .before .before .pre .0 .shaped .some-slot), λ j p l other. absurd (omega arith))
+loop-holds c =
+    let entry = c .before .before .before .before .before .before .before in
+    (omega arith, omega (arith, entry .pre .0 .shaped .some-slot), λ j p l other. absurd (omega arith))
 
 is-idle-requires : tie.Need-is-idle-requires Inv-loop μ-loop
-is-idle-requires c κs = (c .before .before .before .before .before .before .before .before .before .before .pre .0, c .before .loop-test .taken, c .before .before .before .before .before .before .before .before .before .before .pre .1)
+is-idle-requires c κs =
+    let entry = c .before .before .before .before .before .before .before .before .before .before in
+    (entry .pre .0, c .before .loop-test .taken, entry .pre .1)
 
 returns-2 : tie.Need-returns-2 Inv-loop μ-loop
-returns-2 c = inl record {
-  positive = omega (arith, c .before .before .before .before .loop .inv .0);
-  slot = c .before .before .before .loop-test .taken;
-  other = c .before .before .if4 .taken;
-  unused = sym (c .before .is-idle .ensures) ∙ c .if5 .taken;
-  hinted = λ h.
-    let head = c .before .before .before .before .before .before .first-free .ensures .0 in
-    absurd
-    (⊎-elim (λ x. x .3 .left (ap (λ y. getD (c .before .before .before .before .before .before .before .before .before .before .before .before .args .up .now) y 0) head ∙ h .free))
-    (⊎-elim (λ x. h .other (sym head ∙ x .1 .left)) (λ x. omega (arith, h .slot, head, x .left))) (c .before .before .before .before .before .if1 .came));
-}
+returns-2 c =
+    let turn = c .before .before .before .before in
+    let at-if1 = turn .before in
+    let at-first-free = at-if1 .before in
+    let entry = at-first-free .before .before .before .before .before .before in
+    inl record
+    { positive = omega (arith, turn .loop .inv .0); slot = c .before .before .before .loop-test .taken; other = c .before .before .if4 .taken; unused = sym (c .before .is-idle .ensures) ∙ c .if5 .taken; hinted = λ h. let head = at-first-free .first-free .ensures .0 in absurd (⊎-elim (λ x. x .3 .left (ap (λ y. getD (entry .args .up .now) y 0) head ∙ h .free)) (⊎-elim (λ x. h .other (sym head ∙ x .1 .left)) (λ x. omega (arith, h .slot, head, x .left))) (at-if1 .if1 .came)) }
 
 add-slot : tie.Need-add-slot Inv-loop μ-loop
 add-slot c = omega arith
@@ -65,12 +64,16 @@ loop-less : tie.Need-loop-less Inv-loop μ-loop
 loop-less c = omega arith
 
 loop-again : tie.Need-loop-again Inv-loop μ-loop
-loop-again c = (
-  omega (arith, c .before .before .loop .inv .0),
-  omega (arith, c .before .loop-test .taken),
-  all-before (c .before .before .before .before .before .before .before .before .before .before .args .width) (memoryOf (c .before .before .before .before .before .before .before .before .before .before .args .lo .now) (c .before .before .before .before .before .before .before .before .before .before .args .hi .now) (c .before .before .before .before .before .before .before .before .before .before .args .up .now) (c .before .before .before .before .before .before .before .before .before .before .args .hop .now)) (c .before .before .before .before .before .before .before .before .before .before .args .tip) (c .before .before .loop .slot) (c .before .before .loop .inv .2)
-      (⊎-elim (λ x other. sym (x .1 .ensures) ∙ x .2 .left) (λ x other. absurd (other (x .left))) (c .if4 .came)),
-)
+loop-again c =
+    let turn = c .before .before in
+    let entry = turn .before .before .before .before .before .before .before .before in
+    let lent = memoryOf (entry .args .lo .now) (entry .args .hi .now) (entry .args .up .now) (entry .args .hop .now) in (
+      omega (arith, turn .loop .inv .0),
+      omega (arith, c .before .loop-test .taken),
+      all-before (entry .args .width)
+          lent (entry .args .tip) (turn .loop .slot) (turn .loop .inv .2)
+          (⊎-elim (λ x other. sym (x .1 .ensures) ∙ x .2 .left) (λ x other. absurd (other (x .left))) (c .if4 .came)),
+    )
 
 returns-3 : tie.Need-returns-3 Inv-loop μ-loop
 returns-3 c = inr record { none = refl; all-used = λ j p l other. c .before .loop .inv .2 j p (omega (arith, c .loop-test .left)) other }

@@ -21,7 +21,12 @@ same-length-3 : tie.Need-same-length-3
 same-length-3 c = search needs
 
 returns : tie.Need-returns
-returns c = withdraw-no-slot (c .before .before .before .before .before .before .before .before .before .args .width) (memoryOf (c .before .before .before .before .before .before .before .before .before .args .lo .now) (c .before .before .before .before .before .before .before .before .before .args .hi .now) (c .before .before .before .before .before .before .before .before .before .args .up .now) (c .before .before .before .before .before .before .before .before .before .args .hop .now)) (pathBit (c .before .before .before .before .before .before .before .before .before .args .path)) (c .before .before .before .before .before .before .before .before .before .args .size) (c .before .seek .result) (c .before .before .before .before .before .before .before .before .before .pre) (c .before .seek .ensures) (c .if1 .taken)
+returns c =
+    let entry = c .before .before .before .before .before .before .before .before .before in
+    let lent = memoryOf (entry .args .lo .now) (entry .args .hi .now) (entry .args .up .now) (entry .args .hop .now) in
+    let bits = pathBit (entry .args .path) in
+    withdraw-no-slot (entry .args .width) lent bits (entry .args .size) (c .before .seek .result) (entry .pre)
+    (c .before .seek .ensures) (c .if1 .taken)
 
 mul-holds : tie.Need-mul-holds
 mul-holds c = search needs
@@ -42,7 +47,13 @@ same-length-6 : tie.Need-same-length-6
 same-length-6 c = search needs
 
 returns-2 : tie.Need-returns-2
-returns-2 c = withdraw-no-hop (c .before .before .before .before .before .before .before .before .before .before .before .before .args .width) (memoryOf (c .before .before .before .before .before .before .before .before .before .before .before .before .args .lo .now) (c .before .before .before .before .before .before .before .before .before .before .before .before .args .hi .now) (c .before .before .before .before .before .before .before .before .before .before .before .before .args .up .now) (c .before .before .before .before .before .before .before .before .before .before .before .before .args .hop .now)) (pathBit (c .before .before .before .before .before .before .before .before .before .before .before .before .args .path)) (c .before .before .before .before .before .before .before .before .before .before .before .before .args .size) (c .before .before .before .before .seek .result) (c .before .before .before .before .before .before .before .before .before .before .before .before .pre) (c .before .before .before .before .seek .ensures) (sym (c .before .holds .ensures) ∙ not-true (c .before .holds .result) (c .if2 .taken))
+returns-2 c =
+    let at-seek = c .before .before .before .before in
+    let entry = at-seek .before .before .before .before .before .before .before .before in
+    let lent = memoryOf (entry .args .lo .now) (entry .args .hi .now) (entry .args .up .now) (entry .args .hop .now) in
+    let bits = pathBit (entry .args .path) in
+    withdraw-no-hop (entry .args .width) lent bits (entry .args .size) (at-seek .seek .result) (entry .pre)
+    (at-seek .seek .ensures) (sym (c .before .holds .ensures) ∙ not-true (c .before .holds .result) (c .if2 .taken))
 
 mul-hop : tie.Need-mul-hop
 mul-hop c = search needs
@@ -51,7 +62,14 @@ slice-write-hop : tie.Need-slice-write-hop
 slice-write-hop c = search needs
 
 prune-requires : tie.Need-prune-requires
-prune-requires c κs = unheld-on (c .before .before .before .before .before .before .before .before .before .before .before .before .before .before .before .before .args .width) (memoryOf (c .before .before .before .before .before .before .before .before .before .before .before .before .before .before .before .before .args .lo .now) (c .before .before .before .before .before .before .before .before .before .before .before .before .before .before .before .before .args .hi .now) (c .before .before .before .before .before .before .before .before .before .before .before .before .before .before .before .before .args .up .now) (c .before .before .before .before .before .before .before .before .before .before .before .before .before .before .before .before .args .hop .now)) (pathBit (c .before .before .before .before .before .before .before .before .before .before .before .before .before .before .before .before .args .path)) (c .before .before .before .before .before .before .before .before .before .before .before .before .before .before .before .before .args .size) (c .before .before .before .before .before .before .before .before .seek .result) (c .before .before .before .before .before .before .before .before .before .before .before .before .before .before .before .before .pre) (c .before .before .before .before .before .before .before .before .seek .ensures) (c .before .before .before .before .before .before .before .if1 .left)
+prune-requires c κs =
+    let at-if1 = c .before .before .before .before .before .before .before in
+    let at-seek = at-if1 .before in
+    let entry = at-seek .before .before .before .before .before .before .before .before in
+    let lent = memoryOf (entry .args .lo .now) (entry .args .hi .now) (entry .args .up .now) (entry .args .hop .now) in
+    let bits = pathBit (entry .args .path) in
+    unheld-on (entry .args .width) lent bits (entry .args .size) (at-seek .seek .result) (entry .pre)
+    (at-seek .seek .ensures) (at-if1 .if1 .left)
 
 same-length-7 : tie.Need-same-length-7
 same-length-7 c = search needs
@@ -66,8 +84,20 @@ same-length-10 : tie.Need-same-length-10
 same-length-10 c = search needs
 
 returns-3 : tie.Need-returns-3
-returns-3 c = withdraw-taken (c .before .before .before .before .before .before .before .before .before .before .before .before .before .before .before .before .before .before .before .before .before .before .before .before .before .args .width) (memoryOf (c .before .before .before .before .before .before .before .before .before .before .before .before .before .before .before .before .before .before .before .before .before .before .before .before .before .args .lo .now) (c .before .before .before .before .before .before .before .before .before .before .before .before .before .before .before .before .before .before .before .before .before .before .before .before .before .args .hi .now) (c .before .before .before .before .before .before .before .before .before .before .before .before .before .before .before .before .before .before .before .before .before .before .before .before .before .args .up .now) (c .before .before .before .before .before .before .before .before .before .before .before .before .before .before .before .before .before .before .before .before .before .before .before .before .before .args .hop .now)) (pathBit (c .before .before .before .before .before .before .before .before .before .before .before .before .before .before .before .before .before .before .before .before .before .before .before .before .before .args .path)) (c .before .before .before .before .before .before .before .before .before .before .before .before .before .before .before .before .before .before .before .before .before .before .before .before .before .args .size) (c .before .before .before .before .before .before .before .before .before .before .before .before .before .before .before .before .before .seek .result) (c .before .before .before .before .before .before .before .before .before .before .before .before .before .before .before .before .before .before .before .before .before .before .before .before .before .pre) (c .before .before .before .before .before .before .before .before .before .before .before .before .before .before .before .before .before .seek .ensures) (c .before .before .before .before .before .before .before .before .before .before .before .before .before .before .before .before .if1 .left) (sym (c .before .before .before .before .before .before .before .before .before .before .before .before .before .before .holds .ensures) ∙ not-false (c .before .before .before .before .before .before .before .before .before .before .before .before .before .before .holds .result) (c .before .before .before .before .before .before .before .before .before .before .before .before .before .if2 .left))
-    (memoryOf (c .before .before .before .before .before .before .before .before .prune .last .0) (c .before .before .before .before .before .before .before .before .prune .last .1 .0) (c .before .before .before .before .before .before .before .before .prune .last .1 .1 .0) (c .before .before .before .before .before .before .before .before .prune .last .1 .1 .1 .0)) (c .before .before .before .before .before .before .before .before .prune .ensures)
+returns-3 c =
+    let at-prune = c .before .before .before .before .before .before .before .before in
+    let at-if2 = at-prune .before .before .before .before .before in
+    let at-holds = at-if2 .before in
+    let at-if1 = at-holds .before .before in
+    let at-seek = at-if1 .before in
+    let entry = at-seek .before .before .before .before .before .before .before .before in
+    let lent = memoryOf (entry .args .lo .now) (entry .args .hi .now) (entry .args .up .now) (entry .args .hop .now) in
+    let after-prune = memoryOf (at-prune .prune .last .0) (at-prune .prune .last .1 .0) (at-prune .prune .last .1 .1 .0) (at-prune .prune .last .1 .1 .1 .0) in
+    let bits = pathBit (entry .args .path) in
+    withdraw-taken (entry .args .width) lent bits (entry .args .size) (at-seek .seek .result) (entry .pre)
+    (at-seek .seek .ensures) (at-if1 .if1 .left)
+    (sym (at-holds .holds .ensures) ∙ not-false (at-holds .holds .result) (at-if2 .if2 .left)) after-prune
+    (at-prune .prune .ensures)
 
 pub withdraw-spec : {M : Type 1} → statement M
 withdraw-spec =

@@ -28,7 +28,14 @@ path-of-requires : tie.Need-path-of-requires
 path-of-requires c κs = search needs
 
 announce-requires : tie.Need-announce-requires
-announce-requires c κs = can-announce (c .before .before .before .before .before .before .before .before .before .before .before .before .before .before .args .list .now) (c .before .before .before .before .before .before .before .before .before .before .before .before .before .before .args .at) (memoryOf (c .before .before .before .before .before .before .before .before .before .before .before .before .before .before .args .lo .now) (c .before .before .before .before .before .before .before .before .before .before .before .before .before .before .args .hi .now) (c .before .before .before .before .before .before .before .before .before .before .before .before .before .before .args .up .now) (c .before .before .before .before .before .before .before .before .before .before .before .before .before .before .args .hop .now)) (c .before .before .before .before .before .before .before .before .before .before .before .before .before .before .pre .0) (c .before .before .before .before .before .before .next .given .0 .0) (c .before .before .before .before .before .before .next .given .0 .1 .0) (c .path-of .result) (c .path-of .ensures) (c .before .before .before .before .before .before .next .given .0 .1 .1 .0) (announced (c .before .before .before .before .before .before))
+announce-requires c κs =
+    let at-before = c .before .before .before .before .before in
+    let arm = at-before .before in
+    let entry = arm .before .before .before .before .before .before .before .before in
+    let lent = memoryOf (entry .args .lo .now) (entry .args .hi .now) (entry .args .up .now) (entry .args .hop .now) in
+    can-announce (entry .args .list .now) (entry .args .at) lent (entry .pre .0) (arm .next .given .0 .0)
+    (arm .next .given .0 .1 .0) (c .path-of .result) (c .path-of .ensures) (arm .next .given .0 .1 .1 .0)
+    (announced arm)
 
 same-length : tie.Need-same-length
 same-length c = search needs
@@ -43,7 +50,18 @@ same-length-4 : tie.Need-same-length-4
 same-length-4 c = search needs
 
 returns : tie.Need-returns
-returns c = announcement-taken (c .before .before .before .before .before .before .before .before .before .before .before .before .before .before .before .before .before .before .before .before .before .before .before .before .args .list .now) (c .before .before .before .before .before .before .before .before .before .before .before .before .before .before .before .before .before .before .before .before .before .before .before .before .args .at) (memoryOf (c .before .before .before .before .before .before .before .before .before .before .before .before .before .before .before .before .before .before .before .before .before .before .before .before .args .lo .now) (c .before .before .before .before .before .before .before .before .before .before .before .before .before .before .before .before .before .before .before .before .before .before .before .before .args .hi .now) (c .before .before .before .before .before .before .before .before .before .before .before .before .before .before .before .before .before .before .before .before .before .before .before .before .args .up .now) (c .before .before .before .before .before .before .before .before .before .before .before .before .before .before .before .before .before .before .before .before .before .before .before .before .args .hop .now)) (c .before .before .before .before .before .before .before .before .before .before .before .before .before .before .before .before .before .before .before .before .before .before .before .before .pre .0) (c .before .before .before .before .before .before .before .before .before .before .before .before .before .before .before .before .next .given .0 .0) (c .before .before .before .before .before .before .before .before .before .before .before .before .before .before .before .before .next .given .0 .1 .0) (c .before .before .before .before .before .before .before .before .before .before .path-of .result) (c .before .before .before .before .before .before .before .before .before .before .path-of .ensures) (c .before .before .before .before .before .before .before .before .before .before .before .before .before .before .before .before .next .given .0 .1 .1 .0) (announced (c .before .before .before .before .before .before .before .before .before .before .before .before .before .before .before .before)) (memoryOf (c .before .before .before .before .before .before .before .before .before .announce .last .0) (c .before .before .before .before .before .before .before .before .before .announce .last .1 .0) (c .before .before .before .before .before .before .before .before .before .announce .last .1 .1 .0) (c .before .before .before .before .before .before .before .before .before .announce .last .1 .1 .1 .0)) (c .before .before .before .before .before .before .before .before .before .announce .result) (c .before .before .before .before .before .before .before .before .before .announce .ensures) (c .if1 .taken)
+returns c =
+    let at-announce = c .before .before .before .before .before .before .before .before .before in
+    let at-path-of = at-announce .before in
+    let at-before = at-path-of .before .before .before .before .before in
+    let arm = at-before .before in
+    let entry = arm .before .before .before .before .before .before .before .before in
+    let lent = memoryOf (entry .args .lo .now) (entry .args .hi .now) (entry .args .up .now) (entry .args .hop .now) in
+    let after-announce = memoryOf (at-announce .announce .last .0) (at-announce .announce .last .1 .0) (at-announce .announce .last .1 .1 .0) (at-announce .announce .last .1 .1 .1 .0) in
+    announcement-taken (entry .args .list .now) (entry .args .at) lent (entry .pre .0) (arm .next .given .0 .0)
+    (arm .next .given .0 .1 .0) (at-path-of .path-of .result) (at-path-of .path-of .ensures)
+    (arm .next .given .0 .1 .1 .0) (announced arm) after-announce (at-announce .announce .result)
+    (at-announce .announce .ensures) (c .if1 .taken)
 
 enum-known-next-2 : tie.Need-enum-known-next-2
 enum-known-next-2 c = search needs
@@ -52,7 +70,13 @@ path-of-requires-2 : tie.Need-path-of-requires-2
 path-of-requires-2 c κs = search needs
 
 withdraw-requires : tie.Need-withdraw-requires
-withdraw-requires c κs = can-withdraw (c .before .before .before .before .before .before .before .before .before .before .before .before .before .before .args .list .now) (c .before .before .before .before .before .before .before .before .before .before .before .before .before .before .args .at) (memoryOf (c .before .before .before .before .before .before .before .before .before .before .before .before .before .before .args .lo .now) (c .before .before .before .before .before .before .before .before .before .before .before .before .before .before .args .hi .now) (c .before .before .before .before .before .before .before .before .before .before .before .before .before .before .args .up .now) (c .before .before .before .before .before .before .before .before .before .before .before .before .before .before .args .hop .now)) (c .before .before .before .before .before .before .before .before .before .before .before .before .before .before .pre .0) (c .before .before .before .before .before .before .next2 .given .0 .0) (c .before .before .before .before .before .before .next2 .given .0 .1 .0) (c .path-of2 .result) (c .path-of2 .ensures) (withdrawn (c .before .before .before .before .before .before))
+withdraw-requires c κs =
+    let at-before = c .before .before .before .before .before in
+    let arm = at-before .before in
+    let entry = arm .before .before .before .before .before .before .before .before in
+    let lent = memoryOf (entry .args .lo .now) (entry .args .hi .now) (entry .args .up .now) (entry .args .hop .now) in
+    can-withdraw (entry .args .list .now) (entry .args .at) lent (entry .pre .0) (arm .next2 .given .0 .0)
+    (arm .next2 .given .0 .1 .0) (c .path-of2 .result) (c .path-of2 .ensures) (withdrawn arm)
 
 same-length-5 : tie.Need-same-length-5
 same-length-5 c = search needs
@@ -67,7 +91,17 @@ same-length-8 : tie.Need-same-length-8
 same-length-8 c = search needs
 
 returns-2 : tie.Need-returns-2
-returns-2 c = withdrawal-taken (c .before .before .before .before .before .before .before .before .before .before .before .before .before .before .before .before .before .before .before .before .before .before .before .before .args .list .now) (c .before .before .before .before .before .before .before .before .before .before .before .before .before .before .before .before .before .before .before .before .before .before .before .before .args .at) (memoryOf (c .before .before .before .before .before .before .before .before .before .before .before .before .before .before .before .before .before .before .before .before .before .before .before .before .args .lo .now) (c .before .before .before .before .before .before .before .before .before .before .before .before .before .before .before .before .before .before .before .before .before .before .before .before .args .hi .now) (c .before .before .before .before .before .before .before .before .before .before .before .before .before .before .before .before .before .before .before .before .before .before .before .before .args .up .now) (c .before .before .before .before .before .before .before .before .before .before .before .before .before .before .before .before .before .before .before .before .before .before .before .before .args .hop .now)) (c .before .before .before .before .before .before .before .before .before .before .before .before .before .before .before .before .before .before .before .before .before .before .before .before .pre .0) (c .before .before .before .before .before .before .before .before .before .before .before .before .before .before .before .before .next2 .given .0 .0) (c .before .before .before .before .before .before .before .before .before .before .before .before .before .before .before .before .next2 .given .0 .1 .0) (c .before .before .before .before .before .before .before .before .before .before .path-of2 .result) (c .before .before .before .before .before .before .before .before .before .before .path-of2 .ensures) (withdrawn (c .before .before .before .before .before .before .before .before .before .before .before .before .before .before .before .before)) (memoryOf (c .before .before .before .before .before .before .before .before .before .withdraw .last .0) (c .before .before .before .before .before .before .before .before .before .withdraw .last .1 .0) (c .before .before .before .before .before .before .before .before .before .withdraw .last .1 .1 .0) (c .before .before .before .before .before .before .before .before .before .withdraw .last .1 .1 .1 .0)) (c .before .before .before .before .before .before .before .before .before .withdraw .result) (c .before .before .before .before .before .before .before .before .before .withdraw .ensures) (c .if2 .taken)
+returns-2 c =
+    let at-withdraw = c .before .before .before .before .before .before .before .before .before in
+    let at-path-of2 = at-withdraw .before in
+    let at-before = at-path-of2 .before .before .before .before .before in
+    let arm = at-before .before in
+    let entry = arm .before .before .before .before .before .before .before .before in
+    let lent = memoryOf (entry .args .lo .now) (entry .args .hi .now) (entry .args .up .now) (entry .args .hop .now) in
+    let after-withdraw = memoryOf (at-withdraw .withdraw .last .0) (at-withdraw .withdraw .last .1 .0) (at-withdraw .withdraw .last .1 .1 .0) (at-withdraw .withdraw .last .1 .1 .1 .0) in
+    withdrawal-taken (entry .args .list .now) (entry .args .at) lent (entry .pre .0) (arm .next2 .given .0 .0)
+    (arm .next2 .given .0 .1 .0) (at-path-of2 .path-of2 .result) (at-path-of2 .path-of2 .ensures) (withdrawn arm)
+    after-withdraw (at-withdraw .withdraw .result) (at-withdraw .withdraw .ensures) (c .if2 .taken)
 
 enum-known-next-3 : tie.Need-enum-known-next-3
 enum-known-next-3 c = search needs
@@ -85,7 +119,18 @@ same-length-12 : tie.Need-same-length-12
 same-length-12 c = search needs
 
 returns-3 : tie.Need-returns-3
-returns-3 c = announcement-refused (c .before .before .before .before .before .before .before .before .before .before .before .before .before .before .before .before .before .before .before .before .before .before .before .before .args .list .now) (c .before .before .before .before .before .before .before .before .before .before .before .before .before .before .before .before .before .before .before .before .before .before .before .before .args .at) (memoryOf (c .before .before .before .before .before .before .before .before .before .before .before .before .before .before .before .before .before .before .before .before .before .before .before .before .args .lo .now) (c .before .before .before .before .before .before .before .before .before .before .before .before .before .before .before .before .before .before .before .before .before .before .before .before .args .hi .now) (c .before .before .before .before .before .before .before .before .before .before .before .before .before .before .before .before .before .before .before .before .before .before .before .before .args .up .now) (c .before .before .before .before .before .before .before .before .before .before .before .before .before .before .before .before .before .before .before .before .before .before .before .before .args .hop .now)) (c .before .before .before .before .before .before .before .before .before .before .before .before .before .before .before .before .before .before .before .before .before .before .before .before .pre .0) (c .before .before .before .before .before .before .before .before .before .before .before .before .before .before .before .before .next .given .0 .0) (c .before .before .before .before .before .before .before .before .before .before .before .before .before .before .before .before .next .given .0 .1 .0) (c .before .before .before .before .before .before .before .before .before .before .path-of .result) (c .before .before .before .before .before .before .before .before .before .before .path-of .ensures) (c .before .before .before .before .before .before .before .before .before .before .before .before .before .before .before .before .next .given .0 .1 .1 .0) (announced (c .before .before .before .before .before .before .before .before .before .before .before .before .before .before .before .before)) (memoryOf (c .before .before .before .before .before .before .before .before .before .announce .last .0) (c .before .before .before .before .before .before .before .before .before .announce .last .1 .0) (c .before .before .before .before .before .before .before .before .before .announce .last .1 .1 .0) (c .before .before .before .before .before .before .before .before .before .announce .last .1 .1 .1 .0)) (c .before .before .before .before .before .before .before .before .before .announce .result) (c .before .before .before .before .before .before .before .before .before .announce .ensures) (c .if1 .left)
+returns-3 c =
+    let at-announce = c .before .before .before .before .before .before .before .before .before in
+    let at-path-of = at-announce .before in
+    let at-before = at-path-of .before .before .before .before .before in
+    let arm = at-before .before in
+    let entry = arm .before .before .before .before .before .before .before .before in
+    let lent = memoryOf (entry .args .lo .now) (entry .args .hi .now) (entry .args .up .now) (entry .args .hop .now) in
+    let after-announce = memoryOf (at-announce .announce .last .0) (at-announce .announce .last .1 .0) (at-announce .announce .last .1 .1 .0) (at-announce .announce .last .1 .1 .1 .0) in
+    announcement-refused (entry .args .list .now) (entry .args .at) lent (entry .pre .0) (arm .next .given .0 .0)
+    (arm .next .given .0 .1 .0) (at-path-of .path-of .result) (at-path-of .path-of .ensures)
+    (arm .next .given .0 .1 .1 .0) (announced arm) after-announce (at-announce .announce .result)
+    (at-announce .announce .ensures) (c .if1 .left)
 
 same-length-13 : tie.Need-same-length-13
 same-length-13 c = search needs
@@ -100,10 +145,24 @@ same-length-16 : tie.Need-same-length-16
 same-length-16 c = search needs
 
 returns-4 : tie.Need-returns-4
-returns-4 c = withdrawal-refused (c .before .before .before .before .before .before .before .before .before .before .before .before .before .before .before .before .before .before .before .before .before .before .before .before .args .list .now) (c .before .before .before .before .before .before .before .before .before .before .before .before .before .before .before .before .before .before .before .before .before .before .before .before .args .at) (memoryOf (c .before .before .before .before .before .before .before .before .before .before .before .before .before .before .before .before .before .before .before .before .before .before .before .before .args .lo .now) (c .before .before .before .before .before .before .before .before .before .before .before .before .before .before .before .before .before .before .before .before .before .before .before .before .args .hi .now) (c .before .before .before .before .before .before .before .before .before .before .before .before .before .before .before .before .before .before .before .before .before .before .before .before .args .up .now) (c .before .before .before .before .before .before .before .before .before .before .before .before .before .before .before .before .before .before .before .before .before .before .before .before .args .hop .now)) (c .before .before .before .before .before .before .before .before .before .before .before .before .before .before .before .before .before .before .before .before .before .before .before .before .pre .0) (c .before .before .before .before .before .before .before .before .before .before .before .before .before .before .before .before .next2 .given .0 .0) (c .before .before .before .before .before .before .before .before .before .before .before .before .before .before .before .before .next2 .given .0 .1 .0) (c .before .before .before .before .before .before .before .before .before .before .path-of2 .result) (c .before .before .before .before .before .before .before .before .before .before .path-of2 .ensures) (withdrawn (c .before .before .before .before .before .before .before .before .before .before .before .before .before .before .before .before)) (memoryOf (c .before .before .before .before .before .before .before .before .before .withdraw .last .0) (c .before .before .before .before .before .before .before .before .before .withdraw .last .1 .0) (c .before .before .before .before .before .before .before .before .before .withdraw .last .1 .1 .0) (c .before .before .before .before .before .before .before .before .before .withdraw .last .1 .1 .1 .0)) (c .before .before .before .before .before .before .before .before .before .withdraw .result) (c .before .before .before .before .before .before .before .before .before .withdraw .ensures) (c .if2 .left)
+returns-4 c =
+    let at-withdraw = c .before .before .before .before .before .before .before .before .before in
+    let at-path-of2 = at-withdraw .before in
+    let at-before = at-path-of2 .before .before .before .before .before in
+    let arm = at-before .before in
+    let entry = arm .before .before .before .before .before .before .before .before in
+    let lent = memoryOf (entry .args .lo .now) (entry .args .hi .now) (entry .args .up .now) (entry .args .hop .now) in
+    let after-withdraw = memoryOf (at-withdraw .withdraw .last .0) (at-withdraw .withdraw .last .1 .0) (at-withdraw .withdraw .last .1 .1 .0) (at-withdraw .withdraw .last .1 .1 .1 .0) in
+    withdrawal-refused (entry .args .list .now) (entry .args .at) lent (entry .pre .0) (arm .next2 .given .0 .0)
+    (arm .next2 .given .0 .1 .0) (at-path-of2 .path-of2 .result) (at-path-of2 .path-of2 .ensures) (withdrawn arm)
+    after-withdraw (at-withdraw .withdraw .result) (at-withdraw .withdraw .ensures) (c .if2 .left)
 
 returns-5 : tie.Need-returns-5
-returns-5 c = applies-faulty (c .before .before .before .before .before .before .before .before .before .args .list .now) (c .before .before .before .before .before .before .before .before .before .args .at) (memoryOf (c .before .before .before .before .before .before .before .before .before .args .lo .now) (c .before .before .before .before .before .before .before .before .before .args .hi .now) (c .before .before .before .before .before .before .before .before .before .args .up .now) (c .before .before .before .before .before .before .before .before .before .args .hop .now)) (c .before .before .before .before .before .before .before .before .before .pre .0) _ (subst (ReadsRecord _ _ true) (c .before .next3 .given .1) (c .before .before .before .read-record .ensures))
+returns-5 c =
+    let entry = c .before .before .before .before .before .before .before .before .before in
+    let lent = memoryOf (entry .args .lo .now) (entry .args .hi .now) (entry .args .up .now) (entry .args .hop .now) in
+    applies-faulty (entry .args .list .now) (entry .args .at) lent (entry .pre .0) _
+    (subst (ReadsRecord _ _ true) (c .before .next3 .given .1) (c .before .before .before .read-record .ensures))
 
 pub apply-record-spec : {M : Type 1} → statement M
 apply-record-spec =

@@ -10,7 +10,11 @@ lent-fault-requires : tie.Need-lent-fault-requires
 lent-fault-requires c κs = search needs
 
 returns : tie.Need-returns
-returns c = lookup-refused (memoryOf (c .before .before .before .before .before .before .args .lo .now) (c .before .before .before .before .before .before .args .hi .now) (c .before .before .before .before .before .before .args .up .now) (c .before .before .before .before .before .before .args .hop .now)) (c .before .before .before .before .before .before .args .address) (c .before .lent-fault .result) (c .before .lent-fault .ensures) (c .if1 .taken)
+returns c =
+    let entry = c .before .before .before .before .before .before in
+    let lent = memoryOf (entry .args .lo .now) (entry .args .hi .now) (entry .args .up .now) (entry .args .hop .now) in
+    lookup-refused lent (entry .args .address) (c .before .lent-fault .result) (c .before .lent-fault .ensures)
+    (c .if1 .taken)
 
 path-of-requires : tie.Need-path-of-requires
 path-of-requires c κs = search needs
@@ -19,7 +23,13 @@ longest-match-requires : tie.Need-longest-match-requires
 longest-match-requires c κs = (c .before .before .lent-fault .ensures .fine (c .before .if1 .left) .1, omega arith)
 
 returns-2 : tie.Need-returns-2
-returns-2 c = lookup-found (memoryOf (c .before .before .before .before .before .before .before .before .args .lo .now) (c .before .before .before .before .before .before .before .before .args .hi .now) (c .before .before .before .before .before .before .before .before .args .up .now) (c .before .before .before .before .before .before .before .before .args .hop .now)) (c .before .before .before .before .before .before .before .before .args .address) (c .before .before .before .lent-fault .result) (c .before .before .before .lent-fault .ensures) (c .before .before .if1 .left) (c .before .path-of .result) (c .before .path-of .ensures) (c .longest-match .result) (c .longest-match .ensures)
+returns-2 c =
+    let at-lent-fault = c .before .before .before in
+    let entry = at-lent-fault .before .before .before .before .before in
+    let lent = memoryOf (entry .args .lo .now) (entry .args .hi .now) (entry .args .up .now) (entry .args .hop .now) in
+    lookup-found lent (entry .args .address) (at-lent-fault .lent-fault .result) (at-lent-fault .lent-fault .ensures)
+    (c .before .before .if1 .left) (c .before .path-of .result) (c .before .path-of .ensures)
+    (c .longest-match .result) (c .longest-match .ensures)
 
 pub lookup-spec : {M : Type 1} → statement M
 lookup-spec =

@@ -30,7 +30,11 @@ same-length-4 : tie.Need-same-length-4 Inv-loop μ-loop
 same-length-4 c = search needs
 
 returns : tie.Need-returns Inv-loop μ-loop
-returns c = refused-whole (memoryOf (c .before .before .before .before .before .before .before .before .before .before .before .args .lo .now) (c .before .before .before .before .before .before .before .before .before .before .before .args .hi .now) (c .before .before .before .before .before .before .before .before .before .before .before .args .up .now) (c .before .before .before .before .before .before .before .before .before .before .before .args .hop .now)) (c .before .before .before .before .before .before .before .before .before .before .before .args .list .now) (c .before .lent-fault .result) (c .before .lent-fault .ensures) (c .if1 .taken)
+returns c =
+    let entry = c .before .before .before .before .before .before .before .before .before .before .before in
+    let lent = memoryOf (entry .args .lo .now) (entry .args .hi .now) (entry .args .up .now) (entry .args .hop .now) in
+    refused-whole lent (entry .args .list .now) (c .before .lent-fault .result) (c .before .lent-fault .ensures)
+    (c .if1 .taken)
 
 same-length-5 : tie.Need-same-length-5 Inv-loop μ-loop
 same-length-5 c = search needs
@@ -45,19 +49,56 @@ same-length-8 : tie.Need-same-length-8 Inv-loop μ-loop
 same-length-8 c = search needs
 
 returns-2 : tie.Need-returns-2 Inv-loop μ-loop
-returns-2 c = refused-list (memoryOf (c .before .before .before .before .before .before .before .before .before .before .before .before .args .lo .now) (c .before .before .before .before .before .before .before .before .before .before .before .before .args .hi .now) (c .before .before .before .before .before .before .before .before .before .before .before .before .args .up .now) (c .before .before .before .before .before .before .before .before .before .before .before .before .args .hop .now)) (c .before .before .before .before .before .before .before .before .before .before .before .before .args .list .now) (c .before .before .lent-fault .result) (c .before .before .lent-fault .ensures) (c .before .if1 .left) (c .if2 .taken)
+returns-2 c =
+    let at-lent-fault = c .before .before in
+    let entry = at-lent-fault .before .before .before .before .before .before .before .before .before .before in
+    let lent = memoryOf (entry .args .lo .now) (entry .args .hi .now) (entry .args .up .now) (entry .args .hop .now) in
+    refused-list lent (entry .args .list .now) (at-lent-fault .lent-fault .result)
+    (at-lent-fault .lent-fault .ensures) (c .before .if1 .left) (c .if2 .taken)
 
 mask-table-requires : tie.Need-mask-table-requires Inv-loop μ-loop
 mask-table-requires c κs = search needs
 
 loop-holds : tie.Need-loop-holds Inv-loop μ-loop
-loop-holds c = begin (memoryOf (c .before .before .before .before .before .before .before .before .before .before .before .before .before .args .lo .now) (c .before .before .before .before .before .before .before .before .before .before .before .before .before .args .hi .now) (c .before .before .before .before .before .before .before .before .before .before .before .before .before .args .up .now) (c .before .before .before .before .before .before .before .before .before .before .before .before .before .args .hop .now)) (c .before .before .before .before .before .before .before .before .before .before .before .before .before .args .list .now) (c .before .before .before .lent-fault .result) (c .before .before .before .lent-fault .ensures) (c .before .before .if1 .left) (c .before .if2 .left)
+loop-holds c =
+    let at-lent-fault = c .before .before .before in
+    let entry = at-lent-fault .before .before .before .before .before .before .before .before .before .before in
+    let lent = memoryOf (entry .args .lo .now) (entry .args .hi .now) (entry .args .up .now) (entry .args .hop .now) in
+    begin lent (entry .args .list .now) (at-lent-fault .lent-fault .result) (at-lent-fault .lent-fault .ensures)
+    (c .before .before .if1 .left) (c .before .if2 .left)
 
 apply-record-requires : tie.Need-apply-record-requires Inv-loop μ-loop
-apply-record-requires c κs = (c .before .before .before .before .before .before .loop .inv .kept .whole, record { whole = fits-here (memoryOf (c .before .before .before .before .before .before .before .before .before .before .before .before .before .before .before .before .before .before .before .before .args .lo .now) (c .before .before .before .before .before .before .before .before .before .before .before .before .before .before .before .before .before .before .before .before .args .hi .now) (c .before .before .before .before .before .before .before .before .before .before .before .before .before .before .before .before .before .before .before .before .args .up .now) (c .before .before .before .before .before .before .before .before .before .before .before .before .before .before .before .before .before .before .before .before .args .hop .now)) (c .before .before .before .before .before .before .before .before .before .before .before .before .before .before .before .before .before .before .before .before .args .list .now) (c .before .before .before .before .before .before .before .before .before .before .lent-fault .result) (c .before .before .before .before .before .before .before .before .before .before .lent-fault .ensures) (c .before .before .before .before .before .before .before .before .before .if1 .left) (c .before .before .before .before .before .before .before .before .if2 .left) (memoryOf (c .before .before .before .before .before .before .loop .lo) (c .before .before .before .before .before .before .loop .hi) (c .before .before .before .before .before .before .loop .up) (c .before .before .before .before .before .before .loop .hop)) (c .before .before .before .before .before .before .loop .at) (c .before .before .before .before .before .before .loop .count) (c .before .before .before .before .before .before .loop .inv) (c .before .before .before .before .before .loop-test .taken); table = c .before .before .before .before .before .before .before .mask-table .ensures })
+apply-record-requires c κs =
+    let at-loop-test = c .before .before .before .before .before in
+    let turn = at-loop-test .before in
+    let at-mask-table = turn .before in
+    let at-if2 = at-mask-table .before in
+    let at-if1 = at-if2 .before in
+    let at-lent-fault = at-if1 .before in
+    let entry = at-lent-fault .before .before .before .before .before .before .before .before .before .before in
+    let lent = memoryOf (entry .args .lo .now) (entry .args .hi .now) (entry .args .up .now) (entry .args .hop .now) in
+    let held = memoryOf (turn .loop .lo) (turn .loop .hi) (turn .loop .up) (turn .loop .hop) in (
+      turn .loop .inv .kept .whole,
+      record
+          { whole = fits-here lent (entry .args .list .now) (at-lent-fault .lent-fault .result) (at-lent-fault .lent-fault .ensures) (at-if1 .if1 .left) (at-if2 .if2 .left) held (turn .loop .at) (turn .loop .count) (turn .loop .inv) (at-loop-test .loop-test .taken); table = at-mask-table .mask-table .ensures },
+    )
 
 returns-3 : tie.Need-returns-3 Inv-loop μ-loop
-returns-3 c = stopped (memoryOf (c .before .before .before .before .before .before .before .before .before .before .before .before .before .before .before .before .before .before .before .before .before .before .before .before .before .before .before .before .before .before .args .lo .now) (c .before .before .before .before .before .before .before .before .before .before .before .before .before .before .before .before .before .before .before .before .before .before .before .before .before .before .before .before .before .before .args .hi .now) (c .before .before .before .before .before .before .before .before .before .before .before .before .before .before .before .before .before .before .before .before .before .before .before .before .before .before .before .before .before .before .args .up .now) (c .before .before .before .before .before .before .before .before .before .before .before .before .before .before .before .before .before .before .before .before .before .before .before .before .before .before .before .before .before .before .args .hop .now)) (c .before .before .before .before .before .before .before .before .before .before .before .before .before .before .before .before .before .before .before .before .before .before .before .before .before .before .before .before .before .before .args .list .now) (c .before .before .before .before .before .before .before .before .before .before .before .before .before .before .before .before .before .before .before .before .lent-fault .result) (c .before .before .before .before .before .before .before .before .before .before .before .before .before .before .before .before .before .before .before .before .lent-fault .ensures) (c .before .before .before .before .before .before .before .before .before .before .before .before .before .before .before .before .before .before .before .if1 .left) (c .before .before .before .before .before .before .before .before .before .before .before .before .before .before .before .before .before .before .if2 .left) (memoryOf (c .before .before .before .before .before .before .before .before .before .before .before .before .before .before .before .before .loop .lo) (c .before .before .before .before .before .before .before .before .before .before .before .before .before .before .before .before .loop .hi) (c .before .before .before .before .before .before .before .before .before .before .before .before .before .before .before .before .loop .up) (c .before .before .before .before .before .before .before .before .before .before .before .before .before .before .before .before .loop .hop)) (c .before .before .before .before .before .before .before .before .before .before .before .before .before .before .before .before .loop .at) (c .before .before .before .before .before .before .before .before .before .before .before .before .before .before .before .before .loop .count) (c .before .before .before .before .before .before .before .before .before .before .before .before .before .before .before .before .loop .inv) (c .before .before .before .before .before .before .before .before .before .before .before .before .before .before .before .loop-test .taken) (memoryOf (c .before .before .before .before .before .before .before .before .before .apply-record .last .0) (c .before .before .before .before .before .before .before .before .before .apply-record .last .1 .0) (c .before .before .before .before .before .before .before .before .before .apply-record .last .1 .1 .0) (c .before .before .before .before .before .before .before .before .before .apply-record .last .1 .1 .1 .0)) (c .before .before .before .before .before .before .before .before .before .apply-record .result) (c .before .before .before .before .before .before .before .before .before .apply-record .ensures) (c .if3 .taken)
+returns-3 c =
+    let at-apply-record = c .before .before .before .before .before .before .before .before .before in
+    let at-loop-test = at-apply-record .before .before .before .before .before .before in
+    let turn = at-loop-test .before in
+    let at-if2 = turn .before .before in
+    let at-if1 = at-if2 .before in
+    let at-lent-fault = at-if1 .before in
+    let entry = at-lent-fault .before .before .before .before .before .before .before .before .before .before in
+    let lent = memoryOf (entry .args .lo .now) (entry .args .hi .now) (entry .args .up .now) (entry .args .hop .now) in
+    let held = memoryOf (turn .loop .lo) (turn .loop .hi) (turn .loop .up) (turn .loop .hop) in
+    let after-apply-record = memoryOf (at-apply-record .apply-record .last .0) (at-apply-record .apply-record .last .1 .0) (at-apply-record .apply-record .last .1 .1 .0) (at-apply-record .apply-record .last .1 .1 .1 .0) in
+    stopped lent (entry .args .list .now) (at-lent-fault .lent-fault .result) (at-lent-fault .lent-fault .ensures)
+    (at-if1 .if1 .left) (at-if2 .if2 .left) held (turn .loop .at) (turn .loop .count) (turn .loop .inv)
+    (at-loop-test .loop-test .taken) after-apply-record (at-apply-record .apply-record .result)
+    (at-apply-record .apply-record .ensures) (c .if3 .taken)
 
 same-length-9 : tie.Need-same-length-9 Inv-loop μ-loop
 same-length-9 c = returns-3 c .same-lengths .los
@@ -72,19 +113,74 @@ same-length-12 : tie.Need-same-length-12 Inv-loop μ-loop
 same-length-12 c = returns-3 c .same-lengths .hops
 
 add-at : tie.Need-add-at Inv-loop μ-loop
-add-at c = omega (arith, c .before .before .before .before .before .before .before .before .before .before .before .before .before .before .before .before .before .before .before .before .before .before .before .before .before .before .before .before .before .before .good .1 .1 .1 .1 .0 .0, fits-here (memoryOf (c .before .before .before .before .before .before .before .before .before .before .before .before .before .before .before .before .before .before .before .before .before .before .before .before .before .before .before .before .before .before .args .lo .now) (c .before .before .before .before .before .before .before .before .before .before .before .before .before .before .before .before .before .before .before .before .before .before .before .before .before .before .before .before .before .before .args .hi .now) (c .before .before .before .before .before .before .before .before .before .before .before .before .before .before .before .before .before .before .before .before .before .before .before .before .before .before .before .before .before .before .args .up .now) (c .before .before .before .before .before .before .before .before .before .before .before .before .before .before .before .before .before .before .before .before .before .before .before .before .before .before .before .before .before .before .args .hop .now)) (c .before .before .before .before .before .before .before .before .before .before .before .before .before .before .before .before .before .before .before .before .before .before .before .before .before .before .before .before .before .before .args .list .now) (c .before .before .before .before .before .before .before .before .before .before .before .before .before .before .before .before .before .before .before .before .lent-fault .result) (c .before .before .before .before .before .before .before .before .before .before .before .before .before .before .before .before .before .before .before .before .lent-fault .ensures) (c .before .before .before .before .before .before .before .before .before .before .before .before .before .before .before .before .before .before .before .if1 .left) (c .before .before .before .before .before .before .before .before .before .before .before .before .before .before .before .before .before .before .if2 .left) (memoryOf (c .before .before .before .before .before .before .before .before .before .before .before .before .before .before .before .before .loop .lo) (c .before .before .before .before .before .before .before .before .before .before .before .before .before .before .before .before .loop .hi) (c .before .before .before .before .before .before .before .before .before .before .before .before .before .before .before .before .loop .up) (c .before .before .before .before .before .before .before .before .before .before .before .before .before .before .before .before .loop .hop)) (c .before .before .before .before .before .before .before .before .before .before .before .before .before .before .before .before .loop .at) (c .before .before .before .before .before .before .before .before .before .before .before .before .before .before .before .before .loop .count) (c .before .before .before .before .before .before .before .before .before .before .before .before .before .before .before .before .loop .inv) (c .before .before .before .before .before .before .before .before .before .before .before .before .before .before .before .loop-test .taken))
+add-at c =
+    let at-loop-test = c .before .before .before .before .before .before .before .before .before .before .before .before .before .before .before in
+    let turn = at-loop-test .before in
+    let at-if2 = turn .before .before in
+    let at-if1 = at-if2 .before in
+    let at-lent-fault = at-if1 .before in
+    let entry = at-lent-fault .before .before .before .before .before .before .before .before .before .before in
+    let lent = memoryOf (entry .args .lo .now) (entry .args .hi .now) (entry .args .up .now) (entry .args .hop .now) in
+    let held = memoryOf (turn .loop .lo) (turn .loop .hi) (turn .loop .up) (turn .loop .hop) in
+    omega (
+      arith,
+      entry .good .1 .1 .1 .1 .0 .0,
+      fits-here lent (entry .args .list .now) (at-lent-fault .lent-fault .result)
+          (at-lent-fault .lent-fault .ensures) (at-if1 .if1 .left) (at-if2 .if2 .left) held (turn .loop .at)
+          (turn .loop .count) (turn .loop .inv) (at-loop-test .loop-test .taken),
+    )
 
 add-count : tie.Need-add-count Inv-loop μ-loop
-add-count c = omega (arith, c .before .before .before .before .before .before .before .before .before .before .before .before .before .before .before .before .before .before .before .before .before .before .before .before .before .before .before .before .before .before .good .1 .1 .1 .1 .0 .0, count-fits (memoryOf (c .before .before .before .before .before .before .before .before .before .before .before .before .before .before .before .before .before .before .before .before .before .before .before .before .before .before .before .before .before .before .args .lo .now) (c .before .before .before .before .before .before .before .before .before .before .before .before .before .before .before .before .before .before .before .before .before .before .before .before .before .before .before .before .before .before .args .hi .now) (c .before .before .before .before .before .before .before .before .before .before .before .before .before .before .before .before .before .before .before .before .before .before .before .before .before .before .before .before .before .before .args .up .now) (c .before .before .before .before .before .before .before .before .before .before .before .before .before .before .before .before .before .before .before .before .before .before .before .before .before .before .before .before .before .before .args .hop .now)) (c .before .before .before .before .before .before .before .before .before .before .before .before .before .before .before .before .before .before .before .before .before .before .before .before .before .before .before .before .before .before .args .list .now) (c .before .before .before .before .before .before .before .before .before .before .before .before .before .before .before .before .before .before .before .before .lent-fault .result) (c .before .before .before .before .before .before .before .before .before .before .before .before .before .before .before .before .before .before .before .before .lent-fault .ensures) (c .before .before .before .before .before .before .before .before .before .before .before .before .before .before .before .before .before .before .before .if1 .left) (c .before .before .before .before .before .before .before .before .before .before .before .before .before .before .before .before .before .before .if2 .left) (memoryOf (c .before .before .before .before .before .before .before .before .before .before .before .before .before .before .before .before .loop .lo) (c .before .before .before .before .before .before .before .before .before .before .before .before .before .before .before .before .loop .hi) (c .before .before .before .before .before .before .before .before .before .before .before .before .before .before .before .before .loop .up) (c .before .before .before .before .before .before .before .before .before .before .before .before .before .before .before .before .loop .hop)) (c .before .before .before .before .before .before .before .before .before .before .before .before .before .before .before .before .loop .at) (c .before .before .before .before .before .before .before .before .before .before .before .before .before .before .before .before .loop .count) (c .before .before .before .before .before .before .before .before .before .before .before .before .before .before .before .before .loop .inv), c .before .before .before .before .before .before .before .before .before .before .before .before .before .before .before .loop-test .taken)
+add-count c =
+    let at-loop-test = c .before .before .before .before .before .before .before .before .before .before .before .before .before .before .before in
+    let turn = at-loop-test .before in
+    let at-if2 = turn .before .before in
+    let at-if1 = at-if2 .before in
+    let at-lent-fault = at-if1 .before in
+    let entry = at-lent-fault .before .before .before .before .before .before .before .before .before .before in
+    let lent = memoryOf (entry .args .lo .now) (entry .args .hi .now) (entry .args .up .now) (entry .args .hop .now) in
+    let held = memoryOf (turn .loop .lo) (turn .loop .hi) (turn .loop .up) (turn .loop .hop) in
+    omega (
+      arith,
+      entry .good .1 .1 .1 .1 .0 .0,
+      count-fits lent (entry .args .list .now) (at-lent-fault .lent-fault .result)
+          (at-lent-fault .lent-fault .ensures) (at-if1 .if1 .left) (at-if2 .if2 .left) held (turn .loop .at)
+          (turn .loop .count) (turn .loop .inv),
+      at-loop-test .loop-test .taken,
+    )
 
 loop-less : tie.Need-loop-less Inv-loop μ-loop
-loop-less c = omega (arith, c .before .before .before .before .before .before .before .before .before .before .before .before .before .before .before .loop-test .taken)
+loop-less c =
+    let at-loop-test = c .before .before .before .before .before .before .before .before .before .before .before .before .before .before .before in
+    omega (arith, at-loop-test .loop-test .taken)
 
 loop-again : tie.Need-loop-again Inv-loop μ-loop
-loop-again c = go-on (memoryOf (c .before .before .before .before .before .before .before .before .before .before .before .before .before .before .before .before .before .before .before .before .before .before .before .before .before .before .before .before .before .before .args .lo .now) (c .before .before .before .before .before .before .before .before .before .before .before .before .before .before .before .before .before .before .before .before .before .before .before .before .before .before .before .before .before .before .args .hi .now) (c .before .before .before .before .before .before .before .before .before .before .before .before .before .before .before .before .before .before .before .before .before .before .before .before .before .before .before .before .before .before .args .up .now) (c .before .before .before .before .before .before .before .before .before .before .before .before .before .before .before .before .before .before .before .before .before .before .before .before .before .before .before .before .before .before .args .hop .now)) (c .before .before .before .before .before .before .before .before .before .before .before .before .before .before .before .before .before .before .before .before .before .before .before .before .before .before .before .before .before .before .args .list .now) (c .before .before .before .before .before .before .before .before .before .before .before .before .before .before .before .before .before .before .before .before .lent-fault .result) (c .before .before .before .before .before .before .before .before .before .before .before .before .before .before .before .before .before .before .before .before .lent-fault .ensures) (c .before .before .before .before .before .before .before .before .before .before .before .before .before .before .before .before .before .before .before .if1 .left) (c .before .before .before .before .before .before .before .before .before .before .before .before .before .before .before .before .before .before .if2 .left) (memoryOf (c .before .before .before .before .before .before .before .before .before .before .before .before .before .before .before .before .loop .lo) (c .before .before .before .before .before .before .before .before .before .before .before .before .before .before .before .before .loop .hi) (c .before .before .before .before .before .before .before .before .before .before .before .before .before .before .before .before .loop .up) (c .before .before .before .before .before .before .before .before .before .before .before .before .before .before .before .before .loop .hop)) (c .before .before .before .before .before .before .before .before .before .before .before .before .before .before .before .before .loop .at) (c .before .before .before .before .before .before .before .before .before .before .before .before .before .before .before .before .loop .count) (c .before .before .before .before .before .before .before .before .before .before .before .before .before .before .before .before .loop .inv) (c .before .before .before .before .before .before .before .before .before .before .before .before .before .before .before .loop-test .taken) (memoryOf (c .before .before .before .before .before .before .before .before .before .apply-record .last .0) (c .before .before .before .before .before .before .before .before .before .apply-record .last .1 .0) (c .before .before .before .before .before .before .before .before .before .apply-record .last .1 .1 .0) (c .before .before .before .before .before .before .before .before .before .apply-record .last .1 .1 .1 .0)) (c .before .before .before .before .before .before .before .before .before .apply-record .result) (c .before .before .before .before .before .before .before .before .before .apply-record .ensures) (c .if3 .left)
+loop-again c =
+    let at-apply-record = c .before .before .before .before .before .before .before .before .before in
+    let at-loop-test = at-apply-record .before .before .before .before .before .before in
+    let turn = at-loop-test .before in
+    let at-if2 = turn .before .before in
+    let at-if1 = at-if2 .before in
+    let at-lent-fault = at-if1 .before in
+    let entry = at-lent-fault .before .before .before .before .before .before .before .before .before .before in
+    let lent = memoryOf (entry .args .lo .now) (entry .args .hi .now) (entry .args .up .now) (entry .args .hop .now) in
+    let held = memoryOf (turn .loop .lo) (turn .loop .hi) (turn .loop .up) (turn .loop .hop) in
+    let after-apply-record = memoryOf (at-apply-record .apply-record .last .0) (at-apply-record .apply-record .last .1 .0) (at-apply-record .apply-record .last .1 .1 .0) (at-apply-record .apply-record .last .1 .1 .1 .0) in
+    go-on lent (entry .args .list .now) (at-lent-fault .lent-fault .result) (at-lent-fault .lent-fault .ensures)
+    (at-if1 .if1 .left) (at-if2 .if2 .left) held (turn .loop .at) (turn .loop .count) (turn .loop .inv)
+    (at-loop-test .loop-test .taken) after-apply-record (at-apply-record .apply-record .result)
+    (at-apply-record .apply-record .ensures) (c .if3 .left)
 
 returns-4 : tie.Need-returns-4 Inv-loop μ-loop
-returns-4 c = finished (memoryOf (c .before .before .before .before .before .before .before .before .before .before .before .before .before .before .before .args .lo .now) (c .before .before .before .before .before .before .before .before .before .before .before .before .before .before .before .args .hi .now) (c .before .before .before .before .before .before .before .before .before .before .before .before .before .before .before .args .up .now) (c .before .before .before .before .before .before .before .before .before .before .before .before .before .before .before .args .hop .now)) (c .before .before .before .before .before .before .before .before .before .before .before .before .before .before .before .args .list .now) (c .before .before .before .before .before .lent-fault .result) (c .before .before .before .before .before .lent-fault .ensures) (c .before .before .before .before .if1 .left) (c .before .before .before .if2 .left) (memoryOf (c .before .loop .lo) (c .before .loop .hi) (c .before .loop .up) (c .before .loop .hop)) (c .before .loop .at) (c .before .loop .count) (c .before .loop .inv) (c .loop-test .left)
+returns-4 c =
+    let at-if1 = c .before .before .before .before in
+    let at-lent-fault = at-if1 .before in
+    let entry = at-lent-fault .before .before .before .before .before .before .before .before .before .before in
+    let lent = memoryOf (entry .args .lo .now) (entry .args .hi .now) (entry .args .up .now) (entry .args .hop .now) in
+    let held = memoryOf (c .before .loop .lo) (c .before .loop .hi) (c .before .loop .up) (c .before .loop .hop) in
+    finished lent (entry .args .list .now) (at-lent-fault .lent-fault .result) (at-lent-fault .lent-fault .ensures)
+    (at-if1 .if1 .left) (c .before .before .before .if2 .left) held (c .before .loop .at) (c .before .loop .count)
+    (c .before .loop .inv) (c .loop-test .left)
 
 same-length-13 : tie.Need-same-length-13 Inv-loop μ-loop
 same-length-13 c = returns-4 c .same-lengths .los

@@ -11,11 +11,20 @@ link-of-requires : tie.Need-link-of-requires
 link-of-requires c κs = search needs
 
 returns : tie.Need-returns
-returns c = child-none (treeOf (c .before .before .before .before .before .args .lo .now) (c .before .before .before .before .before .args .hi .now) (c .before .before .before .before .before .args .up .now)) (c .before .before .before .before .before .args .right) (c .before .before .before .before .before .args .slot) (c .before .link-of .result) (c .before .link-of .ensures) (λ k. omega (arith, k .positive))
+returns c =
+    let entry = c .before .before .before .before .before in
+    let links = treeOf (entry .args .lo .now) (entry .args .hi .now) (entry .args .up .now) in
+    child-none links (entry .args .right) (entry .args .slot) (c .before .link-of .result)
+    (c .before .link-of .ensures) (λ k. omega (arith, k .positive))
 
 returns-2 : tie.Need-returns-2
-returns-2 c = child-none (treeOf (c .before .before .before .before .before .before .args .lo .now) (c .before .before .before .before .before .before .args .hi .now) (c .before .before .before .before .before .before .args .up .now)) (c .before .before .before .before .before .before .args .right) (c .before .before .before .before .before .before .args .slot) (c .before .before .link-of .result) (c .before .before .link-of .ensures)
-    (λ k. omega (arith, counts-below (treeOf (c .before .before .before .before .before .before .args .lo .now) (c .before .before .before .before .before .before .args .hi .now) (c .before .before .before .before .before .before .args .up .now)) (c .before .before .before .before .before .before .args .right) (c .before .before .before .before .before .before .args .slot) _ k))
+returns-2 c =
+    let at-link-of = c .before .before in
+    let entry = at-link-of .before .before .before .before in
+    let links = treeOf (entry .args .lo .now) (entry .args .hi .now) (entry .args .up .now) in
+    child-none links (entry .args .right) (entry .args .slot) (at-link-of .link-of .result)
+    (at-link-of .link-of .ensures)
+    (λ k. omega (arith, counts-below links (entry .args .right) (entry .args .slot) _ k))
 
 mul-wide : tie.Need-mul-wide
 mul-wide c = search needs
@@ -30,12 +39,22 @@ mark-of-requires : tie.Need-mark-of-requires
 mark-of-requires c κs = search needs
 
 returns-3 : tie.Need-returns-3
-returns-3 c = child-none (treeOf (c .before .before .before .before .before .before .before .before .before .before .args .lo .now) (c .before .before .before .before .before .before .before .before .before .before .args .hi .now) (c .before .before .before .before .before .before .before .before .before .before .args .up .now)) (c .before .before .before .before .before .before .before .before .before .before .args .right) (c .before .before .before .before .before .before .before .before .before .before .args .slot) (c .before .before .before .before .before .before .link-of .result) (c .before .before .before .before .before .before .link-of .ensures)
+returns-3 c =
+    let at-link-of = c .before .before .before .before .before .before in
+    let entry = at-link-of .before .before .before .before in
+    let links = treeOf (entry .args .lo .now) (entry .args .hi .now) (entry .args .up .now) in
+    child-none links (entry .args .right) (entry .args .slot) (at-link-of .link-of .result)
+    (at-link-of .link-of .ensures)
     (λ k. c .if3 .taken (c .before .before .wide .ensures ∙ k .marked ∙ sym (c .before .mark-of .ensures)))
 
 returns-4 : tie.Need-returns-4
-returns-4 c = sym (child-counts (treeOf (c .before .before .before .before .before .before .before .before .before .before .args .lo .now) (c .before .before .before .before .before .before .before .before .before .before .args .hi .now) (c .before .before .before .before .before .before .before .before .before .before .args .up .now)) (c .before .before .before .before .before .before .before .before .before .before .args .right) (c .before .before .before .before .before .before .before .before .before .before .args .slot) (c .before .before .before .before .before .before .link-of .result)
-    record { positive = omega arith; linked = sym (c .before .before .before .before .before .before .link-of .ensures); marked = sym (c .before .before .wide .ensures) ∙ c .if3 .left ∙ c .before .mark-of .ensures })
+returns-4 c =
+    let at-link-of = c .before .before .before .before .before .before in
+    let entry = at-link-of .before .before .before .before in
+    let links = treeOf (entry .args .lo .now) (entry .args .hi .now) (entry .args .up .now) in
+    sym
+    (child-counts links (entry .args .right) (entry .args .slot) (at-link-of .link-of .result) record
+    { positive = omega arith; linked = sym (at-link-of .link-of .ensures); marked = sym (c .before .before .wide .ensures) ∙ c .if3 .left ∙ c .before .mark-of .ensures })
 
 pub child-of-spec : {M : Type 1} → statement M
 child-of-spec =

@@ -20,31 +20,51 @@ loop-holds : tie.Need-loop-holds Inv-loop μ-loop
 loop-holds c = (omega arith, omega (arith, c .before .before .before .pre .0 .some-slot), refl)
 
 bit-requires : tie.Need-bit-requires Inv-loop μ-loop
-bit-requires c κs = omega (arith, c .before .loop .inv .0, c .before .before .before .before .before .pre .1)
+bit-requires c κs =
+    let entry = c .before .before .before .before .before in
+    omega (arith, c .before .loop .inv .0, entry .pre .1)
 
 child-of-requires : tie.Need-child-of-requires Inv-loop μ-loop
-child-of-requires c κs = (c .before .before .before .before .before .before .pre .0, c .before .before .loop .inv .1)
+child-of-requires c κs =
+    let entry = c .before .before .before .before .before .before in
+    (entry .pre .0, c .before .before .loop .inv .1)
 
 add-depth : tie.Need-add-depth Inv-loop μ-loop
 add-depth c = omega arith
 
 returns : tie.Need-returns Inv-loop μ-loop
 returns c =
-    stop-here (treeOf (c .before .before .before .before .before .before .before .before .args .lo .now) (c .before .before .before .before .before .before .before .before .args .hi .now) (c .before .before .before .before .before .before .before .before .args .up .now)) (c .before .before .before .before .before .before .before .before .pre .0) (pathBit (c .before .before .before .before .before .before .before .before .args .path)) (c .before .before .before .before .loop .depth + 1) (c .before .before .before .before .before .before .before .before .args .size)
-    (step-front (treeOf (c .before .before .before .before .before .before .before .before .args .lo .now) (c .before .before .before .before .before .before .before .before .args .hi .now) (c .before .before .before .before .before .before .before .before .args .up .now)) (pathBit (c .before .before .before .before .before .before .before .before .args .path)) (c .before .before .before .before .loop .depth) (c .before .before .before .before .loop .inv .2) (c .before .before .bit .ensures) (c .before .child-of .ensures))
+    let turn = c .before .before .before .before in
+    let entry = turn .before .before .before .before in
+    let links = treeOf (entry .args .lo .now) (entry .args .hi .now) (entry .args .up .now) in
+    let bits = pathBit (entry .args .path) in
+    stop-here links (entry .pre .0) bits (turn .loop .depth + 1) (entry .args .size)
+    (step-front links bits (turn .loop .depth) (turn .loop .inv .2) (c .before .before .bit .ensures)
+    (c .before .child-of .ensures))
     (c .if1 .taken) (omega arith)
 
 loop-less : tie.Need-loop-less Inv-loop μ-loop
 loop-less c = omega arith
 
 loop-again : tie.Need-loop-again Inv-loop μ-loop
-loop-again c = (omega arith, c .if1 .left, step-front (treeOf (c .before .before .before .before .before .before .before .before .args .lo .now) (c .before .before .before .before .before .before .before .before .args .hi .now) (c .before .before .before .before .before .before .before .before .args .up .now)) (pathBit (c .before .before .before .before .before .before .before .before .args .path)) (c .before .before .before .before .loop .depth) (c .before .before .before .before .loop .inv .2) (c .before .before .bit .ensures) (c .before .child-of .ensures))
+loop-again c =
+    let turn = c .before .before .before .before in
+    let entry = turn .before .before .before .before in
+    let links = treeOf (entry .args .lo .now) (entry .args .hi .now) (entry .args .up .now) in
+    let bits = pathBit (entry .args .path) in (
+      omega arith,
+      c .if1 .left,
+      step-front links bits (turn .loop .depth) (turn .loop .inv .2)
+          (c .before .before .bit .ensures) (c .before .child-of .ensures),
+    )
 
 returns-2 : tie.Need-returns-2 Inv-loop μ-loop
 returns-2 c =
-    let whole-walk : c .before .loop .depth ≡ c .before .before .before .before .before .args .size = omega arith in
-    subst (λ d. c .before .loop .slot ≡ find (treeOf (c .before .before .before .before .before .args .lo .now) (c .before .before .before .before .before .args .hi .now) (c .before .before .before .before .before .args .up .now)) (front (pathBit (c .before .before .before .before .before .args .path)) d))
-    whole-walk (c .before .loop .inv .2)
+    let entry = c .before .before .before .before .before in
+    let links = treeOf (entry .args .lo .now) (entry .args .hi .now) (entry .args .up .now) in
+    let bits = pathBit (entry .args .path) in
+    let whole-walk : c .before .loop .depth ≡ entry .args .size = omega arith in subst
+    (λ d. c .before .loop .slot ≡ find links (front bits d)) whole-walk (c .before .loop .inv .2)
 
 pub seek-spec : {M : Type 1} → statement M
 seek-spec =
