@@ -69,31 +69,16 @@ returns c =
     (at-prune .prune .ensures)
 
 same-length : tie.Need-same-length Inv-loop μ-loop
-same-length c =
-    let at-prune = c .before .before .before .before .before .before .before .before in
-    let entry = at-prune .before .before .before .before .before .before .before .before .before .before .before .before .before .before .before .before .before .before .before .before .before .before .before .before .before in
-    let lent = memoryOf (entry .args .lo .now) (entry .args .hi .now) (entry .args .up .now) (entry .args .hop .now) in
-    let after-prune = memoryOf (at-prune .prune .last .0) (at-prune .prune .last .1 .0) (at-prune .prune .last .1 .1 .0) (at-prune .prune .last .1 .1 .1 .0) in
-    kept-lo lent after-prune (entry .pre .route .whole) (returns c .kept)
+same-length c = kept-lo _ _ (c .before .before .before .before .before .before .before .before .before .before .before .before .before .before .before .before .before .before .before .before .before .before .before .before .before .before .before .before .before .before .before .before .before .pre .route .whole) (returns c .kept)
 
 same-length-2 : tie.Need-same-length-2 Inv-loop μ-loop
-same-length-2 c =
-    let at-prune = c .before .before .before .before .before .before .before .before in
-    let entry = at-prune .before .before .before .before .before .before .before .before .before .before .before .before .before .before .before .before .before .before .before .before .before .before .before .before .before in
-    let lent = memoryOf (entry .args .lo .now) (entry .args .hi .now) (entry .args .up .now) (entry .args .hop .now) in
-    let after-prune = memoryOf (at-prune .prune .last .0) (at-prune .prune .last .1 .0) (at-prune .prune .last .1 .1 .0) (at-prune .prune .last .1 .1 .1 .0) in
-    kept-hi lent after-prune (entry .pre .route .whole) (returns c .kept)
+same-length-2 c = kept-hi _ _ (c .before .before .before .before .before .before .before .before .before .before .before .before .before .before .before .before .before .before .before .before .before .before .before .before .before .before .before .before .before .before .before .before .before .pre .route .whole) (returns c .kept)
 
 same-length-3 : tie.Need-same-length-3 Inv-loop μ-loop
 same-length-3 c = returns c .kept .same-slots
 
 same-length-4 : tie.Need-same-length-4 Inv-loop μ-loop
-same-length-4 c =
-    let at-prune = c .before .before .before .before .before .before .before .before in
-    let entry = at-prune .before .before .before .before .before .before .before .before .before .before .before .before .before .before .before .before .before .before .before .before .before .before .before .before .before in
-    let lent = memoryOf (entry .args .lo .now) (entry .args .hi .now) (entry .args .up .now) (entry .args .hop .now) in
-    let after-prune = memoryOf (at-prune .prune .last .0) (at-prune .prune .last .1 .0) (at-prune .prune .last .1 .1 .0) (at-prune .prune .last .1 .1 .1 .0) in
-    kept-hop lent after-prune (entry .pre .route .whole) (returns c .kept)
+same-length-4 c = kept-hop _ _ (c .before .before .before .before .before .before .before .before .before .before .before .before .before .before .before .before .before .before .before .before .before .before .before .before .before .before .before .before .before .before .before .before .before .pre .route .whole) (returns c .kept)
 
 add-depth : tie.Need-add-depth Inv-loop μ-loop
 add-depth c = search needs
@@ -140,31 +125,16 @@ returns-2 c =
     (omega (arith, c .loop-test .left, c .before .loop .inv .2))
 
 same-length-5 : tie.Need-same-length-5 Inv-loop μ-loop
-same-length-5 c =
-    let entry = c .before .before .before .before .before .before in
-    let lent = memoryOf (entry .args .lo .now) (entry .args .hi .now) (entry .args .up .now) (entry .args .hop .now) in
-    let held = memoryOf (c .before .loop .lo) (c .before .loop .hi) (c .before .loop .up) (c .before .loop .hop) in
-    kept-lo lent (rehop held (c .before .loop .slot) (entry .args .neighbour + 1)) (entry .pre .route .whole)
-    (returns-2 c .kept)
+same-length-5 c = kept-lo _ _ (c .before .before .before .before .before .before .pre .route .whole) (returns-2 c .kept)
 
 same-length-6 : tie.Need-same-length-6 Inv-loop μ-loop
-same-length-6 c =
-    let entry = c .before .before .before .before .before .before in
-    let lent = memoryOf (entry .args .lo .now) (entry .args .hi .now) (entry .args .up .now) (entry .args .hop .now) in
-    let held = memoryOf (c .before .loop .lo) (c .before .loop .hi) (c .before .loop .up) (c .before .loop .hop) in
-    kept-hi lent (rehop held (c .before .loop .slot) (entry .args .neighbour + 1)) (entry .pre .route .whole)
-    (returns-2 c .kept)
+same-length-6 c = kept-hi _ _ (c .before .before .before .before .before .before .pre .route .whole) (returns-2 c .kept)
 
 same-length-7 : tie.Need-same-length-7 Inv-loop μ-loop
 same-length-7 c = returns-2 c .kept .same-slots
 
 same-length-8 : tie.Need-same-length-8 Inv-loop μ-loop
-same-length-8 c =
-    let entry = c .before .before .before .before .before .before in
-    let lent = memoryOf (entry .args .lo .now) (entry .args .hi .now) (entry .args .up .now) (entry .args .hop .now) in
-    let held = memoryOf (c .before .loop .lo) (c .before .loop .hi) (c .before .loop .up) (c .before .loop .hop) in
-    kept-hop lent (rehop held (c .before .loop .slot) (entry .args .neighbour + 1)) (entry .pre .route .whole)
-    (returns-2 c .kept)
+same-length-8 c = kept-hop _ _ (c .before .before .before .before .before .before .pre .route .whole) (returns-2 c .kept)
 
 pub announce-spec : {M : Type 1} → statement M
 announce-spec =

@@ -33,35 +33,6 @@ is-bare-requires c κs =
     let turn = c .before .before .before .before .before in
     (turn .loop .inv .1 .route .whole, turn .loop .inv .1 .below)
 
-same-length : tie.Need-same-length Inv-loop μ-loop
-same-length c =
-    let turn = c .before .before .before .before .before .before .before in
-    let entry = turn .before .before .before .before .before in
-    let lent = memoryOf (entry .args .lo .now) (entry .args .hi .now) (entry .args .up .now) (entry .args .hop .now) in
-    let held = memoryOf (turn .loop .lo) (turn .loop .hi) (turn .loop .up) (turn .loop .hop) in
-    kept-lo lent held (entry .pre .route .whole) (turn .loop .inv .0 .kept)
-
-same-length-2 : tie.Need-same-length-2 Inv-loop μ-loop
-same-length-2 c =
-    let turn = c .before .before .before .before .before .before .before in
-    let entry = turn .before .before .before .before .before in
-    let lent = memoryOf (entry .args .lo .now) (entry .args .hi .now) (entry .args .up .now) (entry .args .hop .now) in
-    let held = memoryOf (turn .loop .lo) (turn .loop .hi) (turn .loop .up) (turn .loop .hop) in
-    kept-hi lent held (entry .pre .route .whole) (turn .loop .inv .0 .kept)
-
-same-length-3 : tie.Need-same-length-3 Inv-loop μ-loop
-same-length-3 c =
-    let turn = c .before .before .before .before .before .before .before in
-    turn .loop .inv .0 .kept .same-slots
-
-same-length-4 : tie.Need-same-length-4 Inv-loop μ-loop
-same-length-4 c =
-    let turn = c .before .before .before .before .before .before .before in
-    let entry = turn .before .before .before .before .before in
-    let lent = memoryOf (entry .args .lo .now) (entry .args .hi .now) (entry .args .up .now) (entry .args .hop .now) in
-    let held = memoryOf (turn .loop .lo) (turn .loop .hi) (turn .loop .up) (turn .loop .hop) in
-    kept-hop lent held (entry .pre .route .whole) (turn .loop .inv .0 .kept)
-
 returns : tie.Need-returns Inv-loop μ-loop
 returns c =
     let turn = c .before .before .before .before .before .before .before in
@@ -72,6 +43,18 @@ returns c =
     up-ends-busy (entry .args .width) lent held bits (entry .args .slot) (turn .loop .depth) (turn .loop .at)
     (turn .loop .inv .0) (turn .loop .inv .1)
     (sym (c .before .is-bare .ensures) ∙ not-true (c .before .is-bare .result) (c .if1 .taken))
+
+same-length : tie.Need-same-length Inv-loop μ-loop
+same-length c = kept-lo _ _ (c .before .before .before .before .before .before .before .before .before .before .before .before .pre .route .whole) (returns c .kept)
+
+same-length-2 : tie.Need-same-length-2 Inv-loop μ-loop
+same-length-2 c = kept-hi _ _ (c .before .before .before .before .before .before .before .before .before .before .before .before .pre .route .whole) (returns c .kept)
+
+same-length-3 : tie.Need-same-length-3 Inv-loop μ-loop
+same-length-3 c = returns c .kept .same-slots
+
+same-length-4 : tie.Need-same-length-4 Inv-loop μ-loop
+same-length-4 c = kept-hop _ _ (c .before .before .before .before .before .before .before .before .before .before .before .before .pre .route .whole) (returns c .kept)
 
 sub-depth : tie.Need-sub-depth Inv-loop μ-loop
 sub-depth c = search needs
@@ -153,30 +136,6 @@ loop-again c =
       up-one .1,
     )
 
-same-length-5 : tie.Need-same-length-5 Inv-loop μ-loop
-same-length-5 c =
-    let entry = c .before .before .before .before .before .before in
-    let lent = memoryOf (entry .args .lo .now) (entry .args .hi .now) (entry .args .up .now) (entry .args .hop .now) in
-    let held = memoryOf (c .before .loop .lo) (c .before .loop .hi) (c .before .loop .up) (c .before .loop .hop) in
-    kept-lo lent held (entry .pre .route .whole) (c .before .loop .inv .0 .kept)
-
-same-length-6 : tie.Need-same-length-6 Inv-loop μ-loop
-same-length-6 c =
-    let entry = c .before .before .before .before .before .before in
-    let lent = memoryOf (entry .args .lo .now) (entry .args .hi .now) (entry .args .up .now) (entry .args .hop .now) in
-    let held = memoryOf (c .before .loop .lo) (c .before .loop .hi) (c .before .loop .up) (c .before .loop .hop) in
-    kept-hi lent held (entry .pre .route .whole) (c .before .loop .inv .0 .kept)
-
-same-length-7 : tie.Need-same-length-7 Inv-loop μ-loop
-same-length-7 c = c .before .loop .inv .0 .kept .same-slots
-
-same-length-8 : tie.Need-same-length-8 Inv-loop μ-loop
-same-length-8 c =
-    let entry = c .before .before .before .before .before .before in
-    let lent = memoryOf (entry .args .lo .now) (entry .args .hi .now) (entry .args .up .now) (entry .args .hop .now) in
-    let held = memoryOf (c .before .loop .lo) (c .before .loop .hi) (c .before .loop .up) (c .before .loop .hop) in
-    kept-hop lent held (entry .pre .route .whole) (c .before .loop .inv .0 .kept)
-
 returns-2 : tie.Need-returns-2 Inv-loop μ-loop
 returns-2 c =
     let entry = c .before .before .before .before .before .before in
@@ -185,6 +144,18 @@ returns-2 c =
     let bits = pathBit (entry .args .path) in
     up-ends-first (entry .args .width) lent held bits (entry .args .slot) (c .before .loop .depth)
     (c .before .loop .at) (c .before .loop .inv .0) (c .before .loop .inv .1) (c .loop-test .left)
+
+same-length-5 : tie.Need-same-length-5 Inv-loop μ-loop
+same-length-5 c = kept-lo _ _ (c .before .before .before .before .before .before .pre .route .whole) (returns-2 c .kept)
+
+same-length-6 : tie.Need-same-length-6 Inv-loop μ-loop
+same-length-6 c = kept-hi _ _ (c .before .before .before .before .before .before .pre .route .whole) (returns-2 c .kept)
+
+same-length-7 : tie.Need-same-length-7 Inv-loop μ-loop
+same-length-7 c = returns-2 c .kept .same-slots
+
+same-length-8 : tie.Need-same-length-8 Inv-loop μ-loop
+same-length-8 c = kept-hop _ _ (c .before .before .before .before .before .before .pre .route .whole) (returns-2 c .kept)
 
 pub prune-spec : {M : Type 1} → statement M
 prune-spec =
