@@ -48,6 +48,7 @@ module _ (list : List ℕ) (at : ℕ) (m : Memory) (whole : Whole m) where
     kept = kept-self m whole;
     taken-so = λ e. absurd (omega (arith, r .bounds .first));
     refused-so = λ e. (ap (apply w (slots (m .tree)) (ledgerOf w m)) (sym (r .reading)), refl);
+    untouched = λ x y. refl;
     tidied = λ t. t;
   }
 
@@ -77,6 +78,7 @@ module _ (list : List ℕ) (at : ℕ) (m : Memory) (whole : Whole m) where
             kept = a .kept;
             taken-so = λ z. is-announcement ∙ room-taken m m' (announce (ledgerOf w m) (take size (bitsOf w address)) h) (a .kept) (a .taken e);
             refused-so = λ other. absurd (other refl);
+            untouched = λ other y. absurd (other refl);
             tidied = a .tidied;
           }
 
@@ -88,6 +90,7 @@ module _ (list : List ℕ) (at : ℕ) (m : Memory) (whole : Whole m) where
             kept = a .kept;
             taken-so = λ z. absurd (omega arith);
             refused-so = λ other. (is-announcement ∙ rw (lt-leb _ _ (a .refused e .1)), a .refused e .0);
+            untouched = λ x room. absurd (room refl);
             tidied = a .tidied;
           }
 
@@ -115,6 +118,7 @@ module _ (list : List ℕ) (at : ℕ) (m : Memory) (whole : Whole m) where
             taken-so = λ z. is-withdrawal
                 ∙ rw (a .taken e .0) (room-taken m m' (withdraw (ledgerOf w m) (take size (bitsOf w address))) (a .kept) (a .taken e .1));
             refused-so = λ other. absurd (other refl);
+            untouched = λ other y. absurd (other refl);
             tidied = a .tidied;
           }
 
@@ -126,5 +130,6 @@ module _ (list : List ℕ) (at : ℕ) (m : Memory) (whole : Whole m) where
             kept = a .kept;
             taken-so = λ z. absurd (omega arith);
             refused-so = λ other. (is-withdrawal ∙ rw (a .refused e .0), ap (ledgerOf w) (a .refused e .1));
+            untouched = λ x y. a .refused e .1;
             tidied = a .tidied;
           }

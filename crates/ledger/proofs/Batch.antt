@@ -25,7 +25,7 @@ use Rattle.editing.proofs.Walking.{kept-self, kept-then, kept-lo, kept-hi, kept
 use Rattle.lists.specs.declared.Found.the-variants as found
 use Rattle.ledger.specs.declared.Updated.{Updated}
 use Rattle.ledger.specs.declared.Updated.the-variants.{Complete, Refused}
-use Rattle.ledger.specs.Promise.{badLent, lentFault, afterFault, updateOf, Report, reportOf, reported, wholeFault, SameLengths, Updates, foundAfter, LooksUp}
+use Rattle.ledger.specs.Promise.{badLent, lentFault, afterFault, updateOf, Report, reportOf, reported, SameLengths, Updates, foundAfter, LooksUp}
 use Rattle.ledger.specs.Steps.{IsPathOf, FaultOf, AppliesOne}
 use Rattle.ledger.proofs.Faults.{GoodLent, of-good, let-through, holds-of, path-prefix}
 
@@ -47,6 +47,7 @@ pub record Ahead (a : Memory) (list : List ℕ) (m : Memory) (at count : ℕ) : 
   pub rest : at + recordBytes ipv4 * left ≡ length list
   pub kept : Kept a m
   pub tidied : Tidy w a → Tidy w m
+  pub at-start : count ≡ 0 → m ≡ a
   pub whole : updated ipv4 (slots (a .tree)) (ledgerOf w a) list ≡ onwards count (applyAll w (slots (a .tree)) (ledgerOf w m) (readings list at left))
 
 -- what holds a ledger goes on holding one
@@ -74,11 +75,6 @@ kept-lengths a m whole k = record {
 same-self : (m : Memory) → SameLengths m m
 same-self m = record { los = refl; his = refl; ups = refl; hops = refl }
 
--- a call that is let through is not refused whole unless its list is
-no-whole-fault : (m : Memory) (list : List ℕ) → lentFault m ≡ none → wholeRecords ipv4 list ≡ true → wholeFault m list ≡ none
-unfolding lentFault wholeFault
-no-whole-fault m list e q = rw (of-good m (let-through m e), holds-of m e, q)
-
 -- THE WHOLE CALL REFUSED: nothing has changed
 module _ (m : Memory) (list : List ℕ) (r : ℕ) (fault : FaultOf m r) where
   pub refused-whole : (r ≡ 0 → ⊥) → Updates m list m (Refused r 0)
@@ -88,7 +84,7 @@ module _ (m : Memory) (list : List ℕ) (r : ℕ) (fault : FaultOf m r) where
       record {
         answer = rw is;
         ledger = rw is;
-        unchanged = λ e. refl;
+        untouched = λ z room. refl;
         same-lengths = same-self m;
         no-2-later = λ e. e;
         tidy = λ t. t;
@@ -106,7 +102,7 @@ module _ (m : Memory) (list : List ℕ) (r : ℕ) (fault : FaultOf m r) where
     refused-list other = record {
       answer = rw (fine, ne-eqb (length list % recordBytes ipv4) 0 other);
       ledger = rw (fine, ne-eqb (length list % recordBytes ipv4) 0 other);
-      unchanged = λ e. refl;
+      untouched = λ z room. refl;
       same-lengths = same-self m;
       no-2-later = λ e. e;
       tidy = λ t. t;
@@ -121,6 +117,7 @@ module _ (m : Memory) (list : List ℕ) (r : ℕ) (fault : FaultOf m r) where
         rest = omega arith;
         kept = kept-self m memory-whole;
         tidied = λ t. t;
+        at-start = λ z. refl;
         whole = rw (eq-eqb (length list % recordBytes ipv4) 0 whole-list) (zero-more _);
       }
         where
@@ -168,6 +165,7 @@ module _ (m : Memory) (list : List ℕ) (r : ℕ) (fault : FaultOf m r) where
             rest = omega (arith, a .rest);
             kept = kept-then m m' m'' (a .kept) (one .kept);
             tidied = λ t. one .tidied (a .tidied t);
+            at-start = λ z. absurd (omega arith);
             whole = step
                 ∙ ap (λ o. onwards count (next (ledgerOf w m') o (λ M. applyAll w (slots (m .tree)) M (readings list (at + recordBytes ipv4) (a .left - 1)))))
                 (at-first-slots (taken (ledgerOf w m'')) (one .taken-so e))
@@ -185,7 +183,8 @@ module _ (m : Memory) (list : List ℕ) (r : ℕ) (fault : FaultOf m r) where
               record {
                 answer = rw fine (ap reported (sym is));
                 ledger = rw fine (one .refused-so other .1 ∙ ap (λ x. x .ledger) (sym is));
-                unchanged = λ e. never e (ap isHeld (no-whole-fault m list fine (eq-eqb (length list % recordBytes ipv4) 0 whole-list)));
+                untouched = rw fine (λ z room.
+                    one .untouched other (λ q. room (ap (λ x. x .refusal) is ∙ ap some q)) ∙ a .at-start (sym (ap (λ x. x .count) is) ∙ z));
                 same-lengths = kept-lengths m m'' memory-whole (kept-then m m' m'' (a .kept) (one .kept));
                 no-2-later = kept-fault m m'' memory-whole (kept-then m m' m'' (a .kept) (one .kept));
                 tidy = λ t. one .tidied (a .tidied t);
@@ -202,7 +201,7 @@ module _ (m : Memory) (list : List ℕ) (r : ℕ) (fault : FaultOf m r) where
             record {
               answer = rw fine (ap reported (sym is));
               ledger = rw fine (ap (λ x. x .ledger) (sym is));
-              unchanged = λ e. never e (ap isHeld (no-whole-fault m list fine (eq-eqb (length list % recordBytes ipv4) 0 whole-list)));
+              untouched = rw fine (λ z room. a .at-start (sym (ap (λ x. x .count) is) ∙ z));
               same-lengths = kept-lengths m m' memory-whole (a .kept);
               no-2-later = kept-fault m m' memory-whole (a .kept);
               tidy = a .tidied;

@@ -7,9 +7,8 @@ use mathlib.Core.Option.{Option, none, some}
 use Prim.Native.Nat.{ℕ}
 use lib.Dec.{eqb, ltb}
 use lib.ListN.{length}
-use Rattle.theory.specs.Ledger.{isHeld}
-use Rattle.rules.specs.Numbers.{ipv4, width, mostSlots, badSlices, noLedger, badListLength}
-use Rattle.rules.specs.Records.{Rule, _refusedBy_, firstFault, wholeRecords}
+use Rattle.rules.specs.Numbers.{ipv4, width, mostSlots, badSlices, noLedger, noSlots}
+use Rattle.rules.specs.Records.{_refusedBy_, firstFault}
 use Rattle.rules.specs.Plain.{Applied, complete, updated}
 use Rattle.rules.specs.Lookup.{Answer, hopOf}
 use Rattle.memory.specs.Layout.{Memory, slots, ledgerOf, holdsLedger}
@@ -52,11 +51,6 @@ reportOf (Refused number count) = record { refusal = some number; count = count;
 abbrev pub reported : Applied → Report
 reported a = record { refusal = a .refusal; count = a .count; complete = complete a }
 
--- the whole call is refused, with 1, 2 or 3
-unfoldable pub wholeFault : Memory → List ℕ → Option ℕ
-wholeFault m list =
-    firstFault (badLent m refusedBy badSlices ∷ not (holdsLedger (m .tree)) refusedBy noLedger ∷ not (wholeRecords ipv4 list) refusedBy badListLength ∷ [])
-
 -- as many elements in each slice as before
 pub record SameLengths (m m' : Memory) : Type 0 where
   pub los : length (m' .tree .lo) ≡ length (m .tree .lo)
@@ -68,8 +62,8 @@ pub record Updates (m : Memory) (list : List ℕ) (m' : Memory) (r : Updated) : 
   -- the answer, and the ledger that is left: the count is that of the records which made it
   pub answer : reportOf r ≡ reported (updateOf m list)
   pub ledger : ledgerOf (width ipv4) m' ≡ updateOf m list .ledger
-  -- 1, 2 and 3 leave every element as it was
-  pub unchanged : isHeld (wholeFault m list) ≡ true → m' ≡ m
+  -- where no record was applied, and none was refused for want of room, every element is as it was: so 1, 2 and 3 change nothing
+  pub untouched : updateOf m list .count ≡ 0 → (updateOf m list .refusal ≡ some noSlots → ⊥) → m' ≡ m
   pub same-lengths : SameLengths m m'
   -- what holds a ledger goes on holding one, and tidy memory stays tidy: with its ledger it is then fixed but for which slot a
   -- string lies in and the chain of free slots

@@ -3,7 +3,7 @@ use mathlib.Core.Path.{_≡_}
 use mathlib.Core.Option.{none, some}
 use Prim.Native.Nat.{ℕ, _-_, _/_, _%_, _^_, _<_}
 use lib.Dec.{eqb}
-use Rattle.rules.specs.Numbers.{ipv4, width}
+use Rattle.rules.specs.Numbers.{ipv4, width, noSlots}
 use Rattle.rules.specs.Records.{Reading}
 use Rattle.rules.specs.Plain.{taken, refused, apply}
 use Rattle.memory.specs.Path.{pathBit}
@@ -28,4 +28,6 @@ pub record AppliesOne (m m' : Memory) (r : Reading) (number : ℕ) : Type 0 wher
   pub taken-so : number ≡ 0 → apply (width ipv4) (slots (m .tree)) (ledgerOf (width ipv4) m) r ≡ taken (ledgerOf (width ipv4) m')
   pub refused-so : (number ≡ 0 → ⊥)
       → (apply (width ipv4) (slots (m .tree)) (ledgerOf (width ipv4) m) r ≡ refused number) × (ledgerOf (width ipv4) m' ≡ ledgerOf (width ipv4) m)
+  -- only a record that found no room leaves anything else than it found
+  pub untouched : (number ≡ 0 → ⊥) → (number ≡ noSlots → ⊥) → m' ≡ m
   pub tidied : Tidy (width ipv4) m → Tidy (width ipv4) m'
