@@ -1,21 +1,20 @@
 -- Taking a bare slot out: the ledger stays, and tidy memory stays tidy but for the parent, which may be bare now.
-use mathlib.Core.Path.{_≡_, refl, sym, ap, ap₂, subst, _∙_}
+use mathlib.Core.Path.{_≡_, sym, ap, ap₂, subst, _∙_}
 use mathlib.Core.Logic.{_⊎_, inl, inr, ⊎-map}
 use mathlib.Core.Bool.{Bool, true, false}
-use mathlib.Core.List.{[], _∷_}
-use mathlib.Core.Option.{none}
-use Prim.Native.Nat.{ℕ, zero, suc, _-_, _≤_, _<_}
+use mathlib.Core.List.{_∷_}
+use Prim.Native.Nat.{ℕ, _-_, _≤_, _<_}
 use native.Mathlib.Omega.{arith}
 use lib.ListN.{length, getD}
 use Rattle.theory.specs.Bits.{Bits}
-use Rattle.memory.specs.Layout.{Tree, Memory, slots, Shaped, Whole, link, mark, child, find, readHop, hopAt, ledgerOf}
+use Rattle.memory.specs.Layout.{Memory, slots, Whole, link, mark, child, find, readHop, ledgerOf}
 use Rattle.memory.specs.Tidy.{bare, Chained, Free, Used, TidyBut, Tidy}
-use Rattle.memory.proofs.Find.{Counts, same-or, not-none, child-counts, counts-of, parent-below, none-of, mark-parent, mark-side, mark-positive, one-string}
+use Rattle.memory.proofs.Find.{Counts, same-or, counts-of, parent-below, none-of, mark-parent, mark-side, mark-positive, one-string}
 use Rattle.memory.proofs.Ledger.{hop-low}
 use Rattle.memory.proofs.Chain.{chain-freed}
 use Rattle.memory.proofs.Bare.{bare-hop, bare-leaf}
-use Rattle.editing.specs.Edits.{Kept, Dropped}
-use Rattle.editing.proofs.Moving.{side-or, child-same, child-gone, Moved, stays, comes, goes, Edit, moved, ledger-kept}
+use Rattle.editing.specs.Edits.{Dropped}
+use Rattle.editing.proofs.Moving.{side-or, child-same, stays, comes, goes, Edit, moved, ledger-kept}
 use Rattle.editing.proofs.Hanging.{string-not-free, busy-kept, marked-before}
 
 module _ (w : ℕ) (m m' : Memory) (p : ℕ) (b : Bool) (k : ℕ) (s0 : Bits) (whole : Whole m) (dropped : Dropped m m' p b k)

@@ -1,22 +1,20 @@
 -- How an announcement and a withdrawal end: the promise, from the steps before.
-use mathlib.Core.Path.{_≡_, refl, sym, ap, ap₂, subst, _∙_}
-use mathlib.Core.Logic.{_⊎_, inl, inr}
+use mathlib.Core.Path.{_≡_, refl, sym, ap, subst, _∙_}
+use mathlib.Core.Logic.{inl, inr}
 use mathlib.Core.Bool.{Bool, true, false}
-use mathlib.Core.List.{[], _∷_, _++_, reverse}
-use mathlib.Core.Option.{none, some}
-use Prim.Native.Nat.{ℕ, suc, _+_, _-_, _≤_, _<_}
+use mathlib.Core.List.{reverse}
+use mathlib.Core.Option.{some}
+use Prim.Native.Nat.{ℕ, _+_, _-_, _≤_, _<_}
 use native.Mathlib.Omega.{arith}
 use lib.ListN.{length}
-use Rattle.theory.specs.Bits.{Bits, front, prefixOf}
+use Rattle.theory.specs.Bits.{front, prefixOf}
 use Rattle.theory.specs.Ledger.{isHeld, announce}
 use Rattle.theory.proofs.Hops.{never}
 use Rattle.theory.proofs.Walk.{front-length}
-use Rattle.rules.specs.Numbers.{lowestHop, highestHop}
 use Rattle.rules.specs.Plain.{needs}
-use Rattle.memory.specs.Layout.{Memory, slots, Whole, find, readHop, hopAt, ledgerOf}
-use Rattle.memory.specs.Tidy.{Tidy, TidyBut}
+use Rattle.memory.specs.Layout.{Memory, slots, find, readHop, hopAt, ledgerOf}
 use Rattle.memory.proofs.Ledger.{hop-low, hop-stored, ledger-front, no-hop}
-use Rattle.editing.specs.Edits.{Kept, rehop}
+use Rattle.editing.specs.Edits.{rehop}
 use Rattle.editing.specs.Routes.{CanWithdraw, CanAnnounce, OnPath, Reworked, Extended, Stuck, Step, Announced, Withdrawn}
 use Rattle.editing.proofs.Setting.{rehop-kept, rehop-announce, rehop-withdraw, rehop-tidy, rehop-done, tidy-but}
 use Rattle.editing.proofs.Exhausting.{needs-more, front-more}

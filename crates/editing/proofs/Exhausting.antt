@@ -3,7 +3,7 @@
 use mathlib.Core.Path.{_≡_, refl, sym, ap, subst, _∙_}
 use mathlib.Core.Logic.{_⊎_, inl, inr}
 use mathlib.Core.Bool.{Bool, true, false, _||_}
-use mathlib.Core.List.{List, [], _∷_, _++_, append-assoc, reverse, reverse-append, reverse-reverse}
+use mathlib.Core.List.{[], _∷_, _++_, append-assoc, reverse, reverse-append, reverse-reverse}
 use Prim.Native.Nat.{ℕ, zero, suc, _+_, _-_, _≤_, _<_}
 use native.Mathlib.Omega.{arith}
 use lib.ListN.{length, length-append, length-reverse}
@@ -14,13 +14,13 @@ use Rattle.theory.proofs.Strings.{same-self}
 use Rattle.rules.specs.Plain.{isEmpty, beginsHeld, needs}
 use Rattle.rules.proofs.Slots.{begins-of-held}
 use Rattle.rules.proofs.Room.{needs-beyond}
-use Rattle.memory.specs.Layout.{Tree, Memory, slots, Shaped, Whole, child, find, hopAt, ledgerOf}
+use Rattle.memory.specs.Layout.{Tree, Memory, slots, Whole, child, find, hopAt, ledgerOf}
 use Rattle.memory.specs.Tidy.{bare}
 use Rattle.memory.proofs.Find.{same-or, not-none, one-string, child-not-first}
 use Rattle.memory.proofs.Ledger.{ledger-at}
 use Rattle.memory.proofs.Room.{live}
 use Rattle.editing.specs.Spare.{rises, idle, idleWith}
-use Rattle.editing.proofs.Rising.{trail, rises-string, trail-string, Placed, placed}
+use Rattle.editing.proofs.Rising.{trail, rises-string, trail-string, placed}
 
 -- a slot that may not be taken has a string
 record Stringed (w : ℕ) (t : Tree) (k : ℕ) : Type 0 where

@@ -3,8 +3,7 @@ use mathlib.Core.Path.{_≡_, refl, sym, ap, ap₂, subst, _∙_}
 use mathlib.Core.Logic.{_⊎_, inl, inr, ⊎-map}
 use mathlib.Core.Bool.{Bool, true, false}
 use mathlib.Core.List.{[], _∷_}
-use mathlib.Core.Option.{none}
-use Prim.Native.Nat.{ℕ, zero, suc, _-_, _≤_, _<_}
+use Prim.Native.Nat.{ℕ, _-_, _≤_, _<_}
 use native.Mathlib.Omega.{arith}
 use lib.ListN.{length, getD}
 use borrow.Author.Tests.{eq-eqb}
@@ -13,14 +12,14 @@ use Rattle.theory.specs.Ledger.{isHeld}
 use Rattle.theory.proofs.Hops.{never}
 use Rattle.memory.specs.Layout.{Tree, Memory, slots, Shaped, Whole, link, mark, child, find, readHop, hopAt, ledgerOf}
 use Rattle.memory.specs.Tidy.{bare, headOf, Chained, Free, Used, TidyBut}
-use Rattle.memory.proofs.Find.{Counts, same-or, not-none, child-counts, counts-of, none-of, none-below, mark-parent, mark-side, mark-positive, one-string}
+use Rattle.memory.proofs.Find.{Counts, same-or, not-none, child-counts, counts-of, none-of, mark-parent, mark-side, mark-positive, one-string}
 use Rattle.memory.proofs.Ledger.{hop-low}
 use Rattle.memory.proofs.Chain.{chained-head, chain-taken}
 use Rattle.memory.proofs.Bare.{bare-hop, bare-leaf, busy-child, busy-hop, busy-why}
-use Rattle.editing.specs.Spare.{rises, idle, idleWith, Hinted}
-use Rattle.editing.specs.Edits.{Kept, Hung}
+use Rattle.editing.specs.Spare.{idle, Hinted}
+use Rattle.editing.specs.Edits.{Hung}
 use Rattle.editing.proofs.Rising.{rises-string}
-use Rattle.editing.proofs.Moving.{side-or, child-same, child-gone, Moved, stays, comes, goes, Edit, moved, ledger-kept}
+use Rattle.editing.proofs.Moving.{side-or, child-same, child-gone, stays, comes, goes, Edit, moved, ledger-kept}
 
 -- an idle slot is bare wherever a string lies in it
 pub idle-bare : (w : ℕ) (m : Memory) (k : ℕ) → Shaped (m .tree) → k < slots (m .tree) → idle w m k ≡ true

@@ -1,22 +1,17 @@
 -- How strings fare when one slot is edited: every string but those of that slot keeps its slot. So an edit of a slot that no
 -- held prefix needs leaves the ledger as it was.
-use mathlib.Core.Path.{_≡_, refl, sym, ap, ap₂, subst, _∙_, fun-ext}
+use mathlib.Core.Path.{_≡_, refl, sym, ap, subst, _∙_, fun-ext}
 use mathlib.Core.Logic.{_⊎_, inl, inr}
 use mathlib.Core.Bool.{Bool, true, false}
 use mathlib.Core.List.{[], _∷_, reverse}
 use mathlib.Core.Option.{none}
-use Prim.Native.Nat.{ℕ, zero, suc, _-_, _≤_, _<_}
+use Prim.Native.Nat.{ℕ, _-_, _≤_, _<_}
 use native.Mathlib.Omega.{arith}
 use lib.ListN.{length, getD, length-reverse}
 use Rattle.theory.specs.Bits.{Bits}
-use Rattle.memory.specs.Layout.{Tree, Memory, slots, Shaped, Whole, link, mark, child, find, readHop, hopAt, ledgerOf}
-use Rattle.memory.specs.Tidy.{bare}
-use Rattle.memory.proofs.Find.{Counts, same-or, below-or, child-view, child-counts, counts-of, counts-below, none-of, none-below, parent-below, mark-parent, mark-side, mark-positive, one-string}
-use Rattle.memory.proofs.Ledger.{hop-low, ledger-at, ledger-long, no-hop}
-use Rattle.memory.proofs.Bare.{bare-hop, bare-leaf}
-use Rattle.editing.specs.Spare.{rises, idle, idleWith}
-use Rattle.editing.specs.Edits.{Kept, Hung, Dropped}
-use Rattle.editing.proofs.Rising.{rises-string}
+use Rattle.memory.specs.Layout.{Tree, Memory, slots, Shaped, Whole, link, child, find, readHop, hopAt, ledgerOf}
+use Rattle.memory.proofs.Find.{Counts, same-or, below-or, child-view, child-counts, counts-below, none-of, none-below}
+use Rattle.memory.proofs.Ledger.{ledger-at, ledger-long, no-hop}
 
 pub side-or : (a b : Bool) → (a ≡ b) ⊎ (a ≡ b → ⊥)
 side-or true true = inl refl

@@ -1,8 +1,8 @@
 -- Going up from a slot reaches slot 0 within w steps exactly when a string of at most w bits lies in the slot, since a mark
 -- names the one parent and side that a link to the slot can count for.
-use mathlib.Core.Path.{_≡_, refl, sym, ap, ap₂, subst, _∙_}
-use mathlib.Core.Logic.{_⊎_, inl, inr}
-use mathlib.Core.Bool.{Bool, true, false, cond, _&&_}
+use mathlib.Core.Path.{_≡_, refl, sym, ap, subst, _∙_}
+use mathlib.Core.Logic.{inl, inr}
+use mathlib.Core.Bool.{Bool, true, false, cond}
 use mathlib.Core.List.{[], _∷_}
 use Prim.Native.Nat.{ℕ, zero, suc, _+_, _*_, _-_, _/_, _%_, _≤_, _<_}
 use native.Mathlib.Nat.{sub-zero}
@@ -12,10 +12,10 @@ use lib.Dec.{ltb, eqb}
 use lib.ListN.{length, getD}
 use borrow.Author.Tests.{ltb-true, eqb-true, eqb-false, lt-ltb, eq-eqb, ne-eqb, le-ltb}
 use Rattle.theory.specs.Bits.{Bits}
-use Rattle.theory.proofs.Hops.{by-test, never, and-both}
+use Rattle.theory.proofs.Hops.{by-test, and-both}
 use Rattle.memory.specs.Layout.{Tree, Memory, slots, Shaped, link, mark, child, find}
 use Rattle.memory.specs.Tidy.{bare}
-use Rattle.memory.proofs.Find.{Counts, same-or, not-none, child-counts, counts-of, parent-below, mark-positive, child-not-first}
+use Rattle.memory.proofs.Find.{Counts, same-or, not-none, child-counts, counts-of, parent-below, mark-positive}
 use Rattle.editing.specs.Spare.{parentOf, sideOf, hangs, rises, idleWith, idle}
 
 pub parent-mark : (u p : ℕ) (b : Bool) → u ≡ mark p b → (u - 1) / 2 ≡ p

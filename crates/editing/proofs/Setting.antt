@@ -1,9 +1,9 @@
 -- Setting a slot's hop: the ledger changes for that slot's string alone.
-use mathlib.Core.Path.{_≡_, refl, sym, ap, ap₂, subst, _∙_, fun-ext}
+use mathlib.Core.Path.{_≡_, refl, sym, ap, subst, _∙_, fun-ext}
 use mathlib.Core.Logic.{_⊎_, inl, inr, ⊎-map}
-use mathlib.Core.Bool.{Bool, true, false, cond}
-use mathlib.Core.List.{[], _∷_, reverse, reverse-reverse}
-use mathlib.Core.Option.{Option, none, some}
+use mathlib.Core.Bool.{true, cond}
+use mathlib.Core.List.{reverse, reverse-reverse}
+use mathlib.Core.Option.{none, some}
 use Prim.Native.Nat.{ℕ, _-_, _≤_, _<_}
 use native.Mathlib.Omega.{arith}
 use lib.ListN.{length, getD, set, length-set, length-reverse}
@@ -13,8 +13,8 @@ use Rattle.theory.specs.Ledger.{isHeld, announce, withdraw}
 use Rattle.theory.proofs.Hops.{by-test, never}
 use Rattle.theory.proofs.Longest.{none-some}
 use Rattle.theory.proofs.Strings.{same-self, same-true}
-use Rattle.memory.specs.Layout.{Tree, Memory, slots, Shaped, Whole, link, child, find, readHop, hopAt, ledgerOf}
-use Rattle.memory.specs.Tidy.{bare, Free, Used, TidyBut, Tidy}
+use Rattle.memory.specs.Layout.{Memory, slots, Whole, find, readHop, hopAt, ledgerOf}
+use Rattle.memory.specs.Tidy.{TidyBut, Tidy}
 use Rattle.memory.proofs.Find.{same-or, below-or, one-string}
 use Rattle.memory.proofs.Ledger.{ledger-at, ledger-long}
 use Rattle.memory.proofs.Bare.{busy-hop}

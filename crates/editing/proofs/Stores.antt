@@ -1,16 +1,16 @@
 -- The stores of an edit, place by place: what stands at each place after them.
-use mathlib.Core.Path.{_≡_, refl, sym, ap, _∙_}
-use mathlib.Core.Logic.{_⊎_, inl, inr}
+use mathlib.Core.Path.{_≡_, refl, sym, _∙_}
+use mathlib.Core.Logic.{inl, inr}
 use mathlib.Core.Bool.{Bool, true, false}
 use mathlib.Core.List.{List}
 use Prim.Native.Nat.{ℕ, _≤_, _<_}
 use native.Mathlib.Omega.{arith}
-use lib.Dec.{eqb, ltb, leb}
+use lib.Dec.{eqb, ltb}
 use lib.ListN.{length, getD, set, length-set}
 use lib.Seq.{getD-set-same, getD-set-other}
 use borrow.Author.Tests.{ltb-true, leb-true, le-leb, eq-eqb, ne-eqb, lt-ltb, le-ltb}
 use Rattle.theory.proofs.Hops.{by-test}
-use Rattle.memory.specs.Layout.{Memory, memoryOf, slots, layoutSlots, Shaped, Whole, link, linkIn, mark, holdsLedger}
+use Rattle.memory.specs.Layout.{Memory, memoryOf, Whole, linkIn, mark, holdsLedger}
 use Rattle.memory.specs.Tidy.{firstFree, nextFree, headOf}
 use Rattle.editing.specs.Edits.{headAfter, Kept, Hung, Dropped, LinkSet}
 

@@ -1,22 +1,22 @@
 -- The steps of a walk down a path that makes the slots it lacks, and of one up that frees the bare ones: the ledger stays, and
 -- tidy memory is tidy but for the slot that the walk has come to.
-use mathlib.Core.Path.{_≡_, refl, sym, ap, ap₂, subst, _∙_}
-use mathlib.Core.Logic.{_⊎_, inl, inr}
+use mathlib.Core.Path.{_≡_, refl, sym, ap, subst, _∙_}
+use mathlib.Core.Logic.{inl, inr}
 use mathlib.Core.Bool.{Bool, true, false}
-use mathlib.Core.List.{[], _∷_}
-use Prim.Native.Nat.{ℕ, zero, suc, _+_, _-_, _/_, _≤_, _<_}
+use mathlib.Core.List.{_∷_}
+use Prim.Native.Nat.{ℕ, zero, suc, _-_, _/_, _≤_, _<_}
 use native.Mathlib.Omega.{arith}
 use native.Mathlib.Numerals.{add-one, sub-one}
 use lib.ListN.{length, getD}
-use Rattle.theory.specs.Bits.{Bits, front}
+use Rattle.theory.specs.Bits.{front}
 use Rattle.theory.proofs.Walk.{front-length}
-use Rattle.memory.specs.Layout.{Memory, slots, Shaped, Whole, mark, child, find, ledgerOf}
-use Rattle.memory.specs.Tidy.{bare, TidyBut, Tidy}
+use Rattle.memory.specs.Layout.{Memory, slots, Whole, child, find}
+use Rattle.memory.specs.Tidy.{bare}
 use Rattle.memory.proofs.Find.{Counts, mark-positive, child-le, counts-of, parent-below, one-string, step-front}
 use Rattle.memory.proofs.Bare.{busy-child}
-use Rattle.editing.specs.Spare.{Spared, Exhausted, SpareFor}
+use Rattle.editing.specs.Spare.{Spared, SpareFor}
 use Rattle.editing.specs.Edits.{Kept, Hung, Dropped}
-use Rattle.editing.specs.Routes.{CanWithdraw, OnPath, Reworked, Extended, Stuck, Step}
+use Rattle.editing.specs.Routes.{OnPath, Reworked, Extended, Stuck}
 use Rattle.editing.proofs.Rising.{parent-mark}
 use Rattle.editing.proofs.Hanging.{hung-ledger, hung-there, hung-tidy}
 use Rattle.editing.proofs.Dropping.{dropped-ledger, parent-kept, dropped-tidy, tip-done}

@@ -1,12 +1,12 @@
 // Changing lent memory: a route is set or removed, and what it no longer needs is freed. Any memory will do; in memory made from
 // zeros by these functions each costs by the path's length alone, as the chain of free slots then has what it says.
 ghost use mathlib.Core.Path.{_≡_};
-ghost use mathlib.Core.Bool.{Bool, true, false};
+ghost use mathlib.Core.Bool.{true, false};
 ghost use Prim.Native.Nat.{_+_, _-_, _<_, _≤_};
 ghost use lib.ListN.{length};
-ghost use Rattle.theory.specs.Bits.{front, prefixOf};
+ghost use Rattle.theory.specs.Bits.{prefixOf};
 ghost use Rattle.memory.specs.Path.{pathBit, pathBits};
-ghost use Rattle.memory.specs.Layout.{treeOf, memoryOf, slots, layoutSlots, Shaped, Whole, find};
+ghost use Rattle.memory.specs.Layout.{treeOf, memoryOf, layoutSlots, Shaped, Whole};
 ghost use Rattle.memory.specs.Tidy.{bare, firstFree, nextFree};
 ghost use Rattle.editing.specs.Spare.{rises, idle, SpareFor};
 ghost use Rattle.editing.specs.Edits.{LinkSet, headAfter, Hung, Dropped};

@@ -3,18 +3,18 @@
 use mathlib.Core.Path.{_≡_, refl, sym, ap, subst, _∙_}
 use mathlib.Core.Bool.{Bool, true, false, cond}
 use mathlib.Core.List.{List}
-use Prim.Native.Nat.{ℕ, _≤_, _<_}
+use Prim.Native.Nat.{ℕ, _≤_}
 use native.Mathlib.Omega.{arith}
 use lib.Dec.{leb}
 use lib.ListN.{take, drop}
 use borrow.Author.Tests.{le-leb, lt-leb}
-use Rattle.theory.specs.Bits.{Bits, bitsOf, prefixOf}
+use Rattle.theory.specs.Bits.{bitsOf, prefixOf}
 use Rattle.theory.specs.Ledger.{Ledger, isHeld, announce, withdraw}
 use Rattle.rules.specs.Numbers.{ipv4, width, recordBytes, notHeld, noSlots}
-use Rattle.rules.specs.Records.{announces, withdraws, update, Reading, means, faulty, read}
+use Rattle.rules.specs.Records.{update, Reading, read}
 use Rattle.rules.specs.Plain.{needs, taken, refused, ifRoom, apply}
 use Rattle.records.specs.declared.Record.the-variants.{Announces, Withdraws, Faulty}
-use Rattle.records.specs.Promise.{readingOf, InBounds, ReadsRecord, IsRoute, IsPrefix}
+use Rattle.records.specs.Promise.{readingOf, InBounds, ReadsRecord}
 use Rattle.memory.specs.Path.{pathBit}
 use Rattle.memory.specs.declared.Path.{Path}
 use Rattle.memory.specs.Layout.{Memory, slots, Whole, ledgerOf}

@@ -1,31 +1,28 @@
 -- A list applied record by record: at each record, applying the rest to what is held now gives the whole answer.
 use mathlib.Core.Path.{_≡_, refl, sym, ap, subst, _∙_}
-use mathlib.Core.Bool.{Bool, true, false, not, cond}
-use mathlib.Core.List.{List, [], _∷_, map}
-use mathlib.Core.Option.{Option, none, some}
-use Prim.Native.Nat.{ℕ, zero, suc, _+_, _-_, _*_, _/_, _%_, _≤_, _<_}
+use mathlib.Core.List.{List, _∷_, map}
+use mathlib.Core.Option.{none, some}
+use Prim.Native.Nat.{ℕ, suc, _+_, _-_, _*_, _/_, _%_, _≤_, _<_}
 use native.Mathlib.Omega.{arith}
 use lib.ListN.{length, take, drop}
 use lib.Seq.{drop-drop, take-all}
 use borrow.Author.Tests.{eq-eqb, ne-eqb}
 use Rattle.theory.specs.Bits.{bitsOf, prefixOf}
-use Rattle.theory.specs.Ledger.{Ledger, isHeld, longest}
-use Rattle.theory.proofs.Hops.{never}
+use Rattle.theory.specs.Ledger.{longest}
 use Rattle.theory.proofs.Address.{bits-length}
 use Rattle.rules.specs.Numbers.{ipv4, width, recordBytes, noRoute, badListLength}
-use Rattle.rules.specs.Records.{update, Reading, read, firstFault, _refusedBy_, pieces, recordsOf, wholeRecords}
-use Rattle.rules.specs.Plain.{Outcome, taken, refused, apply, Applied, oneMore, next, applyAll, complete, updated}
+use Rattle.rules.specs.Records.{update, Reading, read, pieces}
+use Rattle.rules.specs.Plain.{Outcome, taken, refused, apply, Applied, next, applyAll, updated}
 use Rattle.rules.specs.Lookup.{hopOf}
 use Rattle.memory.specs.Path.{pathBit}
 use Rattle.memory.specs.declared.Path.{Path}
-use Rattle.memory.specs.Layout.{Memory, slots, Whole, ledgerOf, holdsLedger}
+use Rattle.memory.specs.Layout.{Memory, slots, Whole, ledgerOf}
 use Rattle.memory.specs.Tidy.{Tidy}
 use Rattle.editing.specs.Edits.{Kept}
 use Rattle.editing.proofs.Walking.{kept-self, kept-then, kept-lo, kept-hi, kept-hop}
 use Rattle.lists.specs.declared.Found.the-variants as found
-use Rattle.ledger.specs.declared.Updated.{Updated}
 use Rattle.ledger.specs.declared.Updated.the-variants.{Complete, Refused}
-use Rattle.ledger.specs.Promise.{badLent, lentFault, afterFault, updateOf, Report, reportOf, reported, SameLengths, Updates, foundAfter, LooksUp}
+use Rattle.ledger.specs.Promise.{lentFault, updateOf, reported, SameLengths, Updates, foundAfter, LooksUp}
 use Rattle.ledger.specs.Steps.{IsPathOf, FaultOf, AppliesOne}
 use Rattle.ledger.proofs.Faults.{GoodLent, of-good, let-through, holds-of, path-prefix}
 

@@ -1,17 +1,17 @@
 -- The rules 1 and 2, as code tests them; and an address as a path.
-use mathlib.Core.Path.{_≡_, refl, sym, ap, ap₂, _∙_}
+use mathlib.Core.Path.{_≡_, refl, ap, _∙_}
 use mathlib.Core.Logic.{inl, inr}
-use mathlib.Core.Bool.{Bool, true, false, not, _&&_, _||_}
-use mathlib.Core.Option.{Option, none, some}
+use mathlib.Core.Bool.{true, false, not, _&&_, _||_}
+use mathlib.Core.Option.{none, some}
 use Prim.Native.Nat.{ℕ, _+_, _-_, _*_, _/_, _%_, _^_, _≤_, _<_}
 use native.Mathlib.Omega.{arith}
 use native.Mathlib.Nat.{mul-div-mul-right}
-use lib.Dec.{eqb, ltb, leb}
+use lib.Dec.{eqb, ltb}
 use lib.ListN.{length, getD, take}
 use lib.Pow.{pow-add}
 use borrow.Author.Tests.{eqb-true, eqb-false, ltb-false, eq-eqb, ne-eqb, lt-ltb, le-ltb, le-leb, lt-leb, not-false}
 use Rattle.theory.specs.Bits.{bitsOf, prefixOf}
-use Rattle.theory.proofs.Hops.{by-test, never, and-both}
+use Rattle.theory.proofs.Hops.{by-test, and-both}
 use Rattle.theory.proofs.Longest.{none-some}
 use Rattle.theory.proofs.Walk.{prefix-bits}
 use Rattle.rules.specs.Numbers.{ipv4, width, mostSlots, badSlices, noLedger}

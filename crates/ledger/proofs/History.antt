@@ -8,7 +8,7 @@ use lib.ListN.{getD}
 use Rattle.rules.specs.Numbers.{ipv4, width, mostSlots}
 use Rattle.rules.specs.Plain.{Reached, at-first, after, updated}
 use Rattle.memory.specs.Layout.{Memory, slots, ledgerOf, zeroed}
-use Rattle.memory.specs.Tidy.{Tidy, headOf}
+use Rattle.memory.specs.Tidy.{headOf}
 use Rattle.memory.proofs.Chain.{chained-head}
 use Rattle.memory.proofs.Zeros.{zeroed-ledger, zeroed-slots, zeroed-whole, zeroed-tidy, zeroed-head}
 use Rattle.ledger.specs.declared.Updated.{Updated}

@@ -1,10 +1,10 @@
 -- The promises fix what they promise of: two answers that meet one are equal, and so is what they leave, but for which slot a
 -- string lies in and the chain of free slots.
-use mathlib.Core.Path.{_≡_, refl, sym, ap, subst, _∙_}
+use mathlib.Core.Path.{_≡_, refl, sym, ap, _∙_}
 use mathlib.Core.Logic.{inl, inr}
-use mathlib.Core.Bool.{Bool, true, false}
+use mathlib.Core.Bool.{false}
 use mathlib.Core.List.{List}
-use mathlib.Core.Option.{Option, none, some}
+use mathlib.Core.Option.{none, some}
 use Prim.Native.Nat.{ℕ}
 use native.Mathlib.Omega.{arith}
 use Rattle.theory.proofs.Hops.{by-test}
@@ -12,11 +12,10 @@ use Rattle.theory.proofs.Longest.{none-some}
 use Rattle.rules.specs.Numbers.{ipv4, width, badSlices, noLedger, badListLength, noSlots}
 use Rattle.rules.specs.Records.{wholeRecords}
 use Rattle.rules.specs.Plain.{updated}
-use Rattle.memory.specs.Layout.{Memory, Whole, ledgerOf, holdsLedger}
+use Rattle.memory.specs.Layout.{Memory, ledgerOf, holdsLedger}
 use Rattle.memory.specs.Tidy.{Tidy, SameButSlots}
 use Rattle.memory.proofs.Tidy.{tidy-same}
 use Rattle.lists.specs.declared.Found.{Found}
-use Rattle.lists.specs.Promise.{answerOf}
 use Rattle.lists.proofs.Promise.{same-answer}
 use Rattle.ledger.specs.declared.Updated.{Updated}
 use Rattle.ledger.specs.declared.Updated.the-variants.{Complete, Refused}

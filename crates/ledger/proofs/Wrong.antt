@@ -1,24 +1,23 @@
 -- The wrong answers that document 01 names break the promises, each at one plain case: zeroed memory, and a list of one record.
-use mathlib.Core.Path.{_≡_, refl, sym, ap, subst, _∙_}
+use mathlib.Core.Path.{_≡_, refl, sym, ap, _∙_}
 use mathlib.Core.Bool.{Bool, true, false, true≢false}
-use mathlib.Core.List.{List, [], _∷_, map}
-use mathlib.Core.Option.{Option, none, some}
+use mathlib.Core.List.{List, [], _∷_}
+use mathlib.Core.Option.{none, some}
 use Prim.Native.Nat.{ℕ, _/_, _≤_, _<_}
 use native.Mathlib.Omega.{arith}
 use lib.ListN.{length}
-use lib.Dec.{leb}
 use borrow.Author.Tests.{le-leb}
 use Rattle.theory.specs.Bits.{bitsOf}
 use Rattle.theory.specs.Ledger.{nothing, announce, longest}
 use Rattle.theory.proofs.Longest.{none-some}
 use Rattle.theory.proofs.OneHop.{longest-nothing}
 use Rattle.rules.specs.Numbers.{ipv4, width, recordBytes, mostSlots, noRoute, notHeld}
-use Rattle.rules.specs.Records.{Change, announces, withdraws, ProperChange, update, means, read, recordsOf, printAll}
+use Rattle.rules.specs.Records.{Change, announces, withdraws, ProperChange, means, printAll}
 use Rattle.rules.specs.Plain.{needs, complete, applyAll, updated}
 use Rattle.rules.specs.Lookup.{hopOf}
 use Rattle.rules.proofs.Records.{whole-print, readings-print}
 use Rattle.rules.proofs.Slots.{needs-alone}
-use Rattle.memory.specs.Layout.{Memory, slots, ledgerOf, zeroed}
+use Rattle.memory.specs.Layout.{Memory, ledgerOf, zeroed}
 use Rattle.memory.proofs.Zeros.{zeroed-ledger, zeroed-slots}
 use Rattle.lists.specs.declared.Found.{Found}
 use Rattle.lists.specs.Promise.{answerOf}

@@ -1,8 +1,7 @@
 // The calls on a ledger in lent memory: update and lookup. Every slice and every list is taken; each call checks for itself.
-ghost use mathlib.Core.Path.{_≡_};
 ghost use mathlib.Core.Bool.{true};
-ghost use Prim.Native.Nat.{_+_, _≤_};
-ghost use lib.ListN.{length, take, drop};
+ghost use Prim.Native.Nat.{_+_};
+ghost use lib.ListN.{take, drop};
 ghost use Rattle.rules.specs.Numbers.{ipv4, recordBytes};
 ghost use Rattle.rules.specs.Records.{read, update};
 ghost use Rattle.memory.specs.Layout.{memoryOf, Whole};

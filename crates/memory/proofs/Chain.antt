@@ -1,17 +1,17 @@
 -- The chain of free slots when its first slot is taken, when a slot is freed, and in zeroed memory. So in tidy memory the first
 -- slot of the chain is free as long as any is: nothing has to be searched for before the memory is full.
-use mathlib.Core.Path.{_≡_, refl, sym, ap, ap₂, subst, _∙_}
-use mathlib.Core.Logic.{_⊎_, inl, inr}
-use mathlib.Core.Bool.{Bool, true, false, cond}
+use mathlib.Core.Path.{_≡_, refl, sym, ap, subst, _∙_}
+use mathlib.Core.Logic.{inl, inr}
+use mathlib.Core.Bool.{true, false, cond}
 use mathlib.Core.List.{List, [], _∷_}
 use Prim.Native.Nat.{ℕ, zero, suc, _+_, _-_, _≤_, _<_}
 use native.Mathlib.Omega.{arith}
 use native.Mathlib.Numerals.{add-one}
 use lib.Dec.{eqb, ltb}
-use lib.ListN.{length, getD}
-use borrow.Author.Tests.{eqb-true, eqb-false, eq-eqb, ne-eqb, lt-ltb, le-ltb}
+use lib.ListN.{getD}
+use borrow.Author.Tests.{eqb-false, eq-eqb, ne-eqb, lt-ltb, le-ltb}
 use Rattle.theory.proofs.Hops.{by-test, never}
-use Rattle.memory.specs.Layout.{Tree, Memory, slots}
+use Rattle.memory.specs.Layout.{Tree, slots}
 use Rattle.memory.specs.Tidy.{headOf, behind, listed, ChainFrom, ends, goes-on, Chained}
 use Rattle.memory.proofs.Find.{same-or, below-or, not-none}
 

@@ -1,17 +1,17 @@
 -- What is read from slot 0 on is a tree: a link that counts is marked with its parent and its side, so a slot has one string.
 use mathlib.Core.Path.{_≡_, refl, sym, ap, ap₂, subst, _∙_}
 use mathlib.Core.Logic.{_⊎_, inl, inr}
-use mathlib.Core.Bool.{Bool, true, false, cond, _&&_}
+use mathlib.Core.Bool.{Bool, true, false, _&&_}
 use mathlib.Core.List.{List, [], _∷_}
 use Prim.Native.Nat.{ℕ, zero, suc, _+_, _*_, _≤_, _<_}
 use native.Mathlib.Omega.{arith}
 use native.Mathlib.Numerals.{add-one}
 use lib.Dec.{ltb, eqb}
 use lib.ListN.{length, getD, List·getD-eq-default}
-use borrow.Author.Tests.{ltb-true, eqb-true, eqb-false, lt-ltb, eq-eqb, le-ltb, leb-true, leb-false}
+use borrow.Author.Tests.{ltb-true, eqb-true, eqb-false, lt-ltb, eq-eqb, leb-true, leb-false}
 use lib.Dec.{leb}
 use Rattle.theory.specs.Bits.{Bits, front}
-use Rattle.theory.proofs.Hops.{by-test, never, and-both}
+use Rattle.theory.proofs.Hops.{by-test, and-both}
 use Rattle.memory.specs.Layout.{Tree, slots, Shaped, link, mark, child, find}
 
 -- two numbers are equal or not; a number is below another or not

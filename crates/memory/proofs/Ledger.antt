@@ -1,21 +1,21 @@
 -- The ledger that a memory holds, read along a path: a prefix's slot has its hop, and longest match is what the walk has in force.
-use mathlib.Core.Path.{_≡_, refl, sym, ap, ap₂, _∙_}
+use mathlib.Core.Path.{_≡_, sym, ap, ap₂, _∙_}
 use mathlib.Core.Logic.{inl, inr}
-use mathlib.Core.Bool.{Bool, cond}
+use mathlib.Core.Bool.{Bool}
 use mathlib.Core.List.{[], reverse, reverse-reverse}
 use mathlib.Core.Option.{none, some}
 use Prim.Native.Nat.{ℕ, zero, suc, _+_, _-_, _≤_, _<_}
 use native.Mathlib.Omega.{arith}
 use native.Mathlib.Numerals.{add-one}
 use lib.Dec.{leb}
-use lib.ListN.{length, getD, length-reverse, List·getD-eq-default}
+use lib.ListN.{length, List·getD-eq-default}
 use borrow.Author.Tests.{le-leb, lt-leb, le-ltb, lt-ltb, leb-true, leb-false}
 use Rattle.theory.specs.Bits.{Bits, front, prefixOf}
 use Rattle.theory.specs.Ledger.{isHeld, orElse, longest}
 use Rattle.theory.proofs.Hops.{by-test}
 use Rattle.theory.proofs.Walk.{best, prefix-length, longest-walk}
 use Rattle.rules.specs.Numbers.{lowestHop, highestHop}
-use Rattle.memory.specs.Layout.{Memory, slots, Shaped, Whole, find, readHop, hopAt, ledgerOf}
+use Rattle.memory.specs.Layout.{Memory, slots, Whole, find, readHop, hopAt, ledgerOf}
 use Rattle.memory.proofs.Find.{same-or, none-deeper, find-le}
 
 -- What a stored number stands for.

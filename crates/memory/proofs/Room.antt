@@ -2,9 +2,8 @@
 -- than there are; and a string whose slot leads on only to busy slots begins a held prefix.
 use mathlib.Core.Path.{_≡_, refl, sym, ap, subst, _∙_}
 use mathlib.Core.Logic.{_⊎_, inl, inr}
-use mathlib.Core.Bool.{Bool, true, false, _||_}
-use mathlib.Core.List.{List, [], _∷_, _++_, append-nil, append-assoc, reverse, reverse-cons, reverse-append, reverse-reverse}
-use mathlib.Core.Option.{none}
+use mathlib.Core.Bool.{Bool, true, false}
+use mathlib.Core.List.{[], _∷_, _++_, append-nil, append-assoc, reverse, reverse-cons, reverse-append, reverse-reverse}
 use Prim.Native.Nat.{ℕ, zero, suc, _+_, _-_, _≤_, _<_}
 use native.Mathlib.Omega.{arith}
 use lib.ListN.{length, length-append, length-reverse}
@@ -14,9 +13,9 @@ use Rattle.theory.proofs.Hops.{never, or-either}
 use Rattle.rules.specs.Plain.{isEmpty, beginsHeld, needs}
 use Rattle.rules.proofs.Slots.{begins-of-held, held-of-begins}
 use Rattle.rules.proofs.Room.{needs-within}
-use Rattle.memory.specs.Layout.{Tree, Memory, slots, Shaped, Whole, child, find, hopAt, ledgerOf}
+use Rattle.memory.specs.Layout.{Tree, Memory, slots, Shaped, Whole, find, hopAt, ledgerOf}
 use Rattle.memory.specs.Tidy.{bare}
-use Rattle.memory.proofs.Find.{below-or, none-below, find-le, one-string}
+use Rattle.memory.proofs.Find.{below-or, none-below, one-string}
 use Rattle.memory.proofs.Ledger.{ledger-at, ledger-long, no-hop}
 use Rattle.memory.proofs.Bare.{busy-why}
 

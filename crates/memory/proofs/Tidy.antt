@@ -1,22 +1,21 @@
 -- Tidy memory is fixed by its ledger, but for which slot a string lies in and the chain: a string has a slot exactly when the
 -- ledger needs it, and a slot's number is that of what is held.
-use mathlib.Core.Path.{_≡_, refl, sym, ap, subst, _∙_}
-use mathlib.Core.Logic.{_⊎_, inl, inr}
+use mathlib.Core.Path.{_≡_, sym, ap, subst, _∙_}
+use mathlib.Core.Logic.{inl, inr}
 use mathlib.Core.Bool.{Bool, true, false}
 use mathlib.Core.List.{[], _∷_, reverse, reverse-reverse}
 use mathlib.Core.Option.{Option, none, some}
-use Prim.Native.Nat.{ℕ, zero, suc, _+_, _-_, _≤_, _<_}
+use Prim.Native.Nat.{ℕ, suc, _+_, _-_, _≤_, _<_}
 use native.Mathlib.Omega.{arith}
 use lib.ListN.{length, getD, length-reverse}
-use lib.Dec.{leb}
 use Rattle.theory.specs.Bits.{Bits}
 use Rattle.theory.specs.Ledger.{isHeld}
 use Rattle.theory.proofs.Longest.{none-some}
 use Rattle.rules.specs.Numbers.{lowestHop, highestHop}
 use Rattle.rules.specs.Plain.{beginsHeld}
-use Rattle.memory.specs.Layout.{Tree, Memory, slots, Shaped, Whole, child, find, readHop, hopAt, ledgerOf}
-use Rattle.memory.specs.Tidy.{bare, Free, Used, Tidy, SameButSlots}
-use Rattle.memory.proofs.Find.{Counts, below-or, not-none, mark-positive, counts-of, none-below, find-le, child-not-first, one-string}
+use Rattle.memory.specs.Layout.{Memory, slots, Whole, find, readHop, hopAt, ledgerOf}
+use Rattle.memory.specs.Tidy.{bare, Used, Tidy, SameButSlots}
+use Rattle.memory.proofs.Find.{below-or, mark-positive, counts-of, find-le, child-not-first, one-string}
 use Rattle.memory.proofs.Ledger.{hop-low, hop-high, hop-stored, ledger-at}
 use Rattle.memory.proofs.Room.{begins-slot, live}
 

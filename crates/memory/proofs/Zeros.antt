@@ -1,17 +1,16 @@
 -- Zeroed memory holds the empty ledger, and is tidy.
-use mathlib.Core.Path.{_≡_, refl, sym, ap, _∙_, fun-ext}
-use mathlib.Core.Logic.{_⊎_, inl, inr}
+use mathlib.Core.Path.{_≡_, refl, ap, _∙_, fun-ext}
+use mathlib.Core.Logic.{inl, inr}
 use mathlib.Core.Bool.{Bool, true, false}
-use mathlib.Core.List.{[], _∷_, reverse}
+use mathlib.Core.List.{reverse}
 use mathlib.Core.Option.{none}
-use Prim.Native.Nat.{ℕ, zero, suc, _≤_, _<_}
+use Prim.Native.Nat.{ℕ, _≤_, _<_}
 use native.Mathlib.Omega.{arith}
 use lib.ListN.{length, getD, length-replicate, getD-replicate, List·getD-eq-default}
-use Rattle.theory.specs.Bits.{Bits}
 use Rattle.theory.specs.Ledger.{nothing}
-use Rattle.memory.specs.Layout.{Memory, memoryOf, slots, layoutSlots, Whole, link, child, find, readHop, hopAt, ledgerOf, zeros, zeroed}
+use Rattle.memory.specs.Layout.{slots, layoutSlots, Whole, link, find, readHop, hopAt, ledgerOf, zeros, zeroed}
 use Rattle.memory.specs.Tidy.{Tidy}
-use Rattle.memory.proofs.Find.{below-or, none-of}
+use Rattle.memory.proofs.Find.{below-or}
 use Rattle.memory.proofs.Chain.{zeros-chained}
 use Rattle.memory.proofs.Ledger.{hop-low, ledger-at, ledger-long}
 

@@ -7,7 +7,7 @@ ghost use Rattle.theory.specs.Bits.{front, prefixOf};
 ghost use Rattle.theory.specs.Ledger.{isHeld, orElse, longest};
 ghost use Rattle.rules.specs.Numbers.{noRoute};
 ghost use Rattle.memory.specs.Path.{pathBit, pathBits};
-ghost use Rattle.memory.specs.Layout.{treeOf, memoryOf, slots, layoutSlots, Shaped, Whole, linkIn, mark, child, find, readHop, ledgerOf};
+ghost use Rattle.memory.specs.Layout.{treeOf, memoryOf, layoutSlots, Shaped, Whole, linkIn, mark, child, find, readHop, ledgerOf};
 use numbers::HIGHEST_HOP;
 use numbers::LOWEST_HOP;
 use numbers::NO_ROUTE;

@@ -1,10 +1,9 @@
 -- At each turn the slot is that of the bits passed and the ledger is as it was; at the end the hop is set, or no slot was left.
 use borrow.Author.Needs.{needs}
-use Prim.Native.Nat.{_+_, _-_, _≤_}
+use Prim.Native.Nat.{_-_, _≤_}
 use native.Mathlib.Omega.{arith}
 use Rattle.memory.specs.Path.{pathBit}
 use Rattle.memory.specs.Layout.{memoryOf}
-use Rattle.editing.specs.Edits.{rehop}
 use Rattle.editing.specs.Routes.{Reworked, OnPath}
 use Rattle.editing.proofs.Walking.{kept-lo, kept-hi, kept-hop}
 use Rattle.editing.proofs.Ending.{step-refused, step-taken, start, go-on, still-on, announce-refused, announce-taken}

@@ -1,9 +1,8 @@
 -- Each turn frees one bare slot and goes to its parent, which its mark names.
 use borrow.Author.Needs.{needs}
-use mathlib.Core.Path.{_≡_, refl, sym, _∙_}
+use mathlib.Core.Path.{sym, _∙_}
 use Prim.Native.Nat.{_-_, _/_}
 use native.Mathlib.Omega.{arith}
-use lib.ListN.{length}
 use borrow.Author.Tests.{not-true, not-false}
 use Rattle.memory.specs.Path.{pathBit}
 use Rattle.memory.specs.Layout.{memoryOf}

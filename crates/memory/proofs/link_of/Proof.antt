@@ -1,5 +1,4 @@
 -- A link is read from the slice of its side.
-use mathlib.Core.Path.{_∙_, sym}
 use borrow.Author.Needs.{needs}
 use Rattle.memory.proofs.link_of.Statement.{statement}
 use Rattle.memory.proofs.link_of.Tie as tie

@@ -1,7 +1,7 @@
 -- At each turn the slot is that of the bits passed and the hop is the one in force there; where the walk finds no slot, it stays.
 use borrow.Author.Needs.{needs}
 use mathlib.Core.Path.{_≡_, refl}
-use Prim.Native.Nat.{_+_, _≤_, _<_, _-_}
+use Prim.Native.Nat.{_≤_, _<_, _-_}
 use native.Mathlib.Omega.{arith}
 use lib.ListN.{length}
 use Rattle.theory.specs.Bits.{front}
