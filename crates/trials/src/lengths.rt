@@ -1,0 +1,85 @@
+// How many slots are lent, and slices that differ.
+use crate::change::announce;
+use crate::change::withdraw;
+use crate::text::say;
+use crate::text::say_count;
+use crate::tried::apply;
+use crate::tried::apply_list;
+use crate::tried::look_around;
+
+fn say_lengths(lo: usize, hi: usize, up: usize, hop: usize) {
+    say(b"-- lo ");
+    say_count(lo);
+    say(b", hi ");
+    say_count(hi);
+    say(b", up ");
+    say_count(up);
+    say(b", hop ");
+    say_count(hop);
+    say(b" elements\n");
+}
+
+// The default route is announced, and what was lent is looked at.
+fn lend(lo: &mut [u32], hi: &mut [u32], up: &mut [u32], hop: &mut [u32]) {
+    say_lengths(lo.len(), hi.len(), up.len(), hop.len());
+    apply(lo, hi, up, hop, announce(0, 0, 1));
+    look_around(lo, hi, up, hop);
+}
+
+// One of the four is one shorter; then all are of one length again, with what the refused calls left in them.
+fn one_shorter() {
+    let mut short = [0u32; 3];
+    let mut one = [0u32; 4];
+    let mut two = [0u32; 4];
+    let mut three = [0u32; 4];
+    let mut four = [0u32; 4];
+    lend(&mut short, &mut two, &mut three, &mut four);
+    lend(&mut one, &mut short, &mut three, &mut four);
+    lend(&mut one, &mut two, &mut short, &mut four);
+    lend(&mut one, &mut two, &mut three, &mut short);
+    say(b"  7 bytes: ");
+    // Rule 1 comes before rule 3.
+    apply_list(&mut one, &mut two, &mut three, &mut short, &[0u8; 7]);
+    say_lengths(one.len(), two.len(), three.len(), four.len());
+    look_around(&one, &two, &three, &four);
+}
+
+fn no_slot() {
+    let mut lo = [0u32; 0];
+    let mut hi = [0u32; 0];
+    let mut up = [0u32; 0];
+    let mut hop = [0u32; 0];
+    lend(&mut lo, &mut hi, &mut up, &mut hop);
+}
+
+fn most_slots() {
+    let mut lo = [0u32; 65536];
+    let mut hi = [0u32; 65536];
+    let mut up = [0u32; 65536];
+    let mut hop = [0u32; 65536];
+    lend(&mut lo, &mut hi, &mut up, &mut hop);
+    apply(
+        &mut lo,
+        &mut hi,
+        &mut up,
+        &mut hop,
+        announce(0xFFFFFFFF, 32, 2),
+    );
+    apply(&mut lo, &mut hi, &mut up, &mut hop, withdraw(0, 0));
+    look_around(&lo, &hi, &up, &hop);
+}
+
+fn too_many_slots() {
+    let mut lo = [0u32; 65537];
+    let mut hi = [0u32; 65537];
+    let mut up = [0u32; 65537];
+    let mut hop = [0u32; 65537];
+    lend(&mut lo, &mut hi, &mut up, &mut hop);
+}
+
+pub fn lengths() {
+    one_shorter();
+    no_slot();
+    most_slots();
+    too_many_slots();
+}
