@@ -32,13 +32,14 @@ idleWith m k (suc left) = bare m left k
 unfoldable pub idle : ℕ → Memory → ℕ → Bool
 idle w m k = idleWith m k (rises (m .tree) w k)
 
--- a slot that may be taken while an update works on slot `tip`: one there is, or none
--- (where the chain's first slot serves, it is taken: nothing is searched for)
+-- the chain's first slot serves: it is a slot without a mark, and not the one that an update works on
 pub record Hinted (t : Tree) (tip : ℕ) : Type 0 where
   pub slot : headOf t < slots t
   pub other : headOf t ≡ tip → ⊥
   pub free : getD (t .up) (headOf t) 0 ≡ 0
 
+-- a slot that may be taken while an update works on slot `tip`: the chain's first one where that serves, so that nothing is
+-- searched for ..
 pub record Spared (w : ℕ) (m : Memory) (tip k : ℕ) : Type 0 where
   pub positive : 0 < k
   pub slot : k < slots (m .tree)
@@ -46,6 +47,7 @@ pub record Spared (w : ℕ) (m : Memory) (tip k : ℕ) : Type 0 where
   pub unused : idle w m k ≡ true
   pub hinted : Hinted (m .tree) tip → k ≡ headOf (m .tree)
 
+-- .. or the number of slots, as every slot is in use
 pub record Exhausted (w : ℕ) (m : Memory) (tip k : ℕ) : Type 0 where
   pub none : k ≡ slots (m .tree)
   pub all-used : (j : ℕ) → 0 < j → j < slots (m .tree) → (j ≡ tip → ⊥) → idle w m j ≡ false
