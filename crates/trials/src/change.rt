@@ -1,4 +1,4 @@
-// A record by its fields, good or bad, and its 8 bytes.
+// A record, good or bad, as the number that its 8 bytes are, high byte first.
 ghost use mathlib.Core.Path.{_≡_};
 ghost use lib.ListN.{length};
 use crate::text::say;
@@ -9,43 +9,37 @@ use numbers::NO_HOP;
 use numbers::RECORD;
 use numbers::WITHDRAW;
 
-pub struct Change {
-    pub address: u32,
-    pub size: u8,
-    pub action: u8,
-    pub hop: u16,
+// In a run of changes, not a record: look around.
+pub const LOOK: u64 = 0xFFFFFFFFFFFFFFFF;
+
+pub fn record(address: u32, size: u8, action: u8, hop: u16) -> u64 {
+    (address as u64) * 4294967296
+        + (size as u64) * 16777216
+        + (action as u64) * 65536
+        + (hop as u64)
 }
 
-pub fn record(address: u32, size: u8, action: u8, hop: u16) -> Change {
-    Change {
-        address,
-        size,
-        action,
-        hop,
-    }
-}
-
-pub fn announce(address: u32, size: u8, hop: u16) -> Change {
+pub fn announce(address: u32, size: u8, hop: u16) -> u64 {
     record(address, size, ANNOUNCE, hop)
 }
 
-pub fn withdraw(address: u32, size: u8) -> Change {
+pub fn withdraw(address: u32, size: u8) -> u64 {
     record(address, size, WITHDRAW, NO_HOP as u16)
 }
 
 // The record as it stands in a list.
-pub fn bytes_of(change: Change) -> [u8; RECORD]
+pub fn bytes_of(change: u64) -> [u8; RECORD]
     ensures { λ r. ⌜ 8 ≡ length r ⌝ }
 {
     [
-        (change.address / 16777216) as u8,
-        (change.address / 65536 % 256) as u8,
-        (change.address / 256 % 256) as u8,
-        (change.address % 256) as u8,
-        change.size,
-        change.action,
-        (change.hop / 256) as u8,
-        (change.hop % 256) as u8,
+        (change / 72057594037927936) as u8,
+        (change / 281474976710656 % 256) as u8,
+        (change / 1099511627776 % 256) as u8,
+        (change / 4294967296 % 256) as u8,
+        (change / 16777216 % 256) as u8,
+        (change / 65536 % 256) as u8,
+        (change / 256 % 256) as u8,
+        (change % 256) as u8,
     ]
 }
 
@@ -61,11 +55,11 @@ fn say_action(action: u8) {
     }
 }
 
-pub fn say_change(change: Change) {
-    say_action(change.action);
-    say_address(change.address);
+pub fn say_change(change: u64) {
+    say_action((change / 65536 % 256) as u8);
+    say_address((change / 4294967296) as u32);
     say(b"/");
-    say_number(change.size as u64);
+    say_number(change / 16777216 % 256);
     say(b" hop ");
-    say_number(change.hop as u64);
+    say_number(change % 65536);
 }

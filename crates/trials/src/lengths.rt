@@ -1,11 +1,12 @@
 // How many slots are lent, and slices that differ.
+use crate::change::LOOK;
 use crate::change::announce;
 use crate::change::withdraw;
 use crate::text::say;
 use crate::text::say_count;
-use crate::tried::apply;
 use crate::tried::apply_list;
 use crate::tried::look_around;
+use crate::tried::run;
 
 fn say_lengths(lo: usize, hi: usize, up: usize, hop: usize) {
     say(b"-- lo ");
@@ -22,8 +23,8 @@ fn say_lengths(lo: usize, hi: usize, up: usize, hop: usize) {
 // The default route is announced, and what was lent is looked at.
 fn lend(lo: &mut [u32], hi: &mut [u32], up: &mut [u32], hop: &mut [u32]) {
     say_lengths(lo.len(), hi.len(), up.len(), hop.len());
-    apply(lo, hi, up, hop, announce(0, 0, 1));
-    look_around(lo, hi, up, hop);
+    let changes = [announce(0, 0, 1), LOOK];
+    run(lo, hi, up, hop, &changes);
 }
 
 // One of the four is one shorter; then all are of one length again, with what the refused calls left in them.
@@ -58,15 +59,8 @@ fn most_slots() {
     let mut up = [0u32; 65536];
     let mut hop = [0u32; 65536];
     lend(&mut lo, &mut hi, &mut up, &mut hop);
-    apply(
-        &mut lo,
-        &mut hi,
-        &mut up,
-        &mut hop,
-        announce(0xFFFFFFFF, 32, 2),
-    );
-    apply(&mut lo, &mut hi, &mut up, &mut hop, withdraw(0, 0));
-    look_around(&lo, &hi, &up, &hop);
+    let changes = [announce(0xFFFFFFFF, 32, 2), withdraw(0, 0), LOOK];
+    run(&mut lo, &mut hi, &mut up, &mut hop, &changes);
 }
 
 fn too_many_slots() {

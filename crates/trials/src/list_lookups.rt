@@ -1,5 +1,4 @@
 // Lookup in a record list.
-use crate::change::Change;
 use crate::change::announce;
 use crate::change::record;
 use crate::change::say_change;
@@ -17,7 +16,7 @@ fn look_in_five(list: &[u8; LIST]) {
     look_in_list(list, 0);
 }
 
-fn refused_at(bad: Change, place: usize) {
+fn refused_at(bad: u64, place: usize) {
     let mut list = [0u8; LIST];
     put_good(&mut list);
     put(&mut list, place, bad);
@@ -28,7 +27,7 @@ fn refused_at(bad: Change, place: usize) {
     look_in_five(&list);
 }
 
-fn refused_everywhere(bad: Change) {
+fn refused_everywhere(bad: u64) {
     refused_at(bad, 0);
     refused_at(bad, 2);
     refused_at(bad, 4);

@@ -1,5 +1,4 @@
 // A list of five records in lent bytes.
-use crate::change::Change;
 use crate::change::announce;
 use crate::change::bytes_of;
 use numbers::RECORD;
@@ -10,7 +9,7 @@ const PLACES: usize = 5;
 pub const LIST: usize = PLACES * RECORD;
 
 // The record at a place of the list is written over.
-pub fn put(list: &mut [u8; LIST], place: usize, change: Change) {
+pub fn put(list: &mut [u8; LIST], place: usize, change: u64) {
     if place < PLACES {
         let at = place * RECORD;
         let bytes = bytes_of(change);

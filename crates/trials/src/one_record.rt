@@ -1,35 +1,42 @@
 // Updates with one record: the first rule that it breaks, the edges of each rule, and /0 and /32.
+use crate::change::LOOK;
 use crate::change::announce;
 use crate::change::record;
 use crate::change::withdraw;
 use crate::text::say;
-use crate::tried::apply;
 use crate::tried::apply_list;
 use crate::tried::look_around;
+use crate::tried::run;
 
 // Each record breaks one rule less than the one before.
 fn first_fault(lo: &mut [u32; 65], hi: &mut [u32; 65], up: &mut [u32; 65], hop: &mut [u32; 65]) {
     say(b"-- update: the first rule that is broken gives the number\n");
-    apply(lo, hi, up, hop, record(0x0A000001, 33, 3, 65));
-    apply(lo, hi, up, hop, record(0x0A000001, 8, 3, 65));
-    apply(lo, hi, up, hop, record(0x0A000000, 8, 3, 65));
-    apply(lo, hi, up, hop, record(0x0A000000, 8, 2, 1));
-    apply(lo, hi, up, hop, record(0x0A000000, 8, 2, 0));
-    look_around(lo, hi, up, hop);
+    let changes = [
+        record(0x0A000001, 33, 3, 65),
+        record(0x0A000001, 8, 3, 65),
+        record(0x0A000000, 8, 3, 65),
+        record(0x0A000000, 8, 2, 1),
+        record(0x0A000000, 8, 2, 0),
+        LOOK,
+    ];
+    run(lo, hi, up, hop, &changes);
 }
 
 fn edges_of_rules(lo: &mut [u32; 65], hi: &mut [u32; 65], up: &mut [u32; 65], hop: &mut [u32; 65]) {
     say(b"-- update: edges of the rules 4 to 7\n");
-    apply(lo, hi, up, hop, announce(0, 255, 1));
-    apply(lo, hi, up, hop, announce(0x80000000, 0, 1));
-    apply(lo, hi, up, hop, announce(0xFFFFFFFF, 31, 1));
-    apply(lo, hi, up, hop, record(0, 0, 0, 1));
-    apply(lo, hi, up, hop, record(0, 0, 255, 1));
-    apply(lo, hi, up, hop, announce(0, 0, 0));
-    // 1 in the low byte of the hop, and in the high one.
-    apply(lo, hi, up, hop, announce(0, 0, 257));
-    apply(lo, hi, up, hop, announce(0, 0, 64));
-    look_around(lo, hi, up, hop);
+    let changes = [
+        announce(0, 255, 1),
+        announce(0x80000000, 0, 1),
+        announce(0xFFFFFFFF, 31, 1),
+        record(0, 0, 0, 1),
+        record(0, 0, 255, 1),
+        announce(0, 0, 0),
+        // 1 in the low byte of the hop, and in the high one.
+        announce(0, 0, 257),
+        announce(0, 0, 64),
+        LOOK,
+    ];
+    run(lo, hi, up, hop, &changes);
 }
 
 fn shortest_and_longest(
@@ -39,25 +46,31 @@ fn shortest_and_longest(
     hop: &mut [u32; 65],
 ) {
     say(b"-- update: /0 and /32 announced and replaced\n");
-    apply(lo, hi, up, hop, announce(0, 0, 1));
-    apply(lo, hi, up, hop, announce(0, 32, 2));
-    apply(lo, hi, up, hop, announce(0xFFFFFFFF, 32, 3));
-    look_around(lo, hi, up, hop);
-    apply(lo, hi, up, hop, announce(0, 0, 4));
-    apply(lo, hi, up, hop, announce(0, 32, 5));
-    apply(lo, hi, up, hop, announce(0xFFFFFFFF, 32, 64));
-    look_around(lo, hi, up, hop);
+    let changes = [
+        announce(0, 0, 1),
+        announce(0, 32, 2),
+        announce(0xFFFFFFFF, 32, 3),
+        LOOK,
+        announce(0, 0, 4),
+        announce(0, 32, 5),
+        announce(0xFFFFFFFF, 32, 64),
+        LOOK,
+    ];
+    run(lo, hi, up, hop, &changes);
 }
 
 fn withdrawn(lo: &mut [u32; 65], hi: &mut [u32; 65], up: &mut [u32; 65], hop: &mut [u32; 65]) {
     say(b"-- the same memory: /0 and /32 withdrawn\n");
-    apply(lo, hi, up, hop, withdraw(0, 0));
-    look_around(lo, hi, up, hop);
-    apply(lo, hi, up, hop, withdraw(0, 32));
-    apply(lo, hi, up, hop, withdraw(0xFFFFFFFF, 32));
-    look_around(lo, hi, up, hop);
-    apply(lo, hi, up, hop, withdraw(0, 0));
-    apply(lo, hi, up, hop, withdraw(0xFFFFFFFF, 32));
+    let changes = [
+        withdraw(0, 0),
+        LOOK,
+        withdraw(0, 32),
+        withdraw(0xFFFFFFFF, 32),
+        LOOK,
+        withdraw(0, 0),
+        withdraw(0xFFFFFFFF, 32),
+    ];
+    run(lo, hi, up, hop, &changes);
 }
 
 // A refusal of the whole call leaves the routes as they are: the first 8 of the 15 bytes withdraw 0.0.0.0/0.

@@ -1,6 +1,5 @@
 // Updates with a list of five records of which one is refused: at the first, at a middle and at the last place.
 ghost use Prim.Native.Nat.{_<_};
-use crate::change::Change;
 use crate::change::announce;
 use crate::change::record;
 use crate::change::say_change;
@@ -51,7 +50,7 @@ fn apply_in_two(
     look_around(lo, hi, up, hop);
 }
 
-fn refused_at(bad: Change, place: usize)
+fn refused_at(bad: u64, place: usize)
     requires { ⌜ place < 5 ⌝ }
 {
     say(b"five records with ");
@@ -69,7 +68,7 @@ fn refused_at(bad: Change, place: usize)
     apply_in_two(&mut lo, &mut hi, &mut up, &mut hop, &list, place);
 }
 
-fn refused_everywhere(bad: Change) {
+fn refused_everywhere(bad: u64) {
     refused_at(bad, 0);
     refused_at(bad, 2);
     refused_at(bad, 4);

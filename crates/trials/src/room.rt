@@ -1,42 +1,49 @@
 // Memory with no slot to spare.
+use crate::change::LOOK;
 use crate::change::announce;
 use crate::change::withdraw;
 use crate::list_of_five::LIST;
 use crate::list_of_five::put;
 use crate::text::say;
-use crate::tried::apply;
 use crate::tried::apply_list;
 use crate::tried::look_around;
+use crate::tried::run;
 
 // The default route and one of 32 bits need 33 slots.
 fn full(lo: &mut [u32; 33], hi: &mut [u32; 33], up: &mut [u32; 33], hop: &mut [u32; 33]) {
     say(b"-- 33 slots: case J, then no slot is left\n");
-    apply(lo, hi, up, hop, announce(0, 0, 1));
-    apply(lo, hi, up, hop, announce(0xFFFFFFFF, 32, 2));
-    look_around(lo, hi, up, hop);
-    apply(lo, hi, up, hop, announce(0, 1, 3));
-    apply(lo, hi, up, hop, announce(0xFFFFFFFE, 32, 3));
-    apply(lo, hi, up, hop, withdraw(0xFFFFFFFE, 32));
-    // A prefix of one that is held needs no slot of its own.
-    apply(lo, hi, up, hop, announce(0xC0000000, 2, 4));
-    apply(lo, hi, up, hop, announce(0xFFFFFFFF, 32, 5));
-    look_around(lo, hi, up, hop);
+    let changes = [
+        announce(0, 0, 1),
+        announce(0xFFFFFFFF, 32, 2),
+        LOOK,
+        announce(0, 1, 3),
+        announce(0xFFFFFFFE, 32, 3),
+        withdraw(0xFFFFFFFE, 32),
+        // A prefix of one that is held needs no slot of its own.
+        announce(0xC0000000, 2, 4),
+        announce(0xFFFFFFFF, 32, 5),
+        LOOK,
+    ];
+    run(lo, hi, up, hop, &changes);
 }
 
 fn freed(lo: &mut [u32; 33], hi: &mut [u32; 33], up: &mut [u32; 33], hop: &mut [u32; 33]) {
     say(b"-- the same memory: room freed serves another route\n");
-    // Frees 30 slots: all but those of 0.0.0.0/0, 128.0.0.0/1 and 192.0.0.0/2.
-    apply(lo, hi, up, hop, withdraw(0xFFFFFFFF, 32));
-    apply(lo, hi, up, hop, announce(0, 31, 6));
-    apply(lo, hi, up, hop, announce(0, 30, 6));
-    apply(lo, hi, up, hop, announce(0x40000000, 2, 7));
-    look_around(lo, hi, up, hop);
-    // Frees two slots: its own, and the one of 128.0.0.0/1 above it.
-    apply(lo, hi, up, hop, withdraw(0xC0000000, 2));
-    apply(lo, hi, up, hop, announce(0x40000000, 2, 7));
-    apply(lo, hi, up, hop, announce(0x80000000, 2, 8));
-    apply(lo, hi, up, hop, announce(0x80000000, 1, 9));
-    look_around(lo, hi, up, hop);
+    let changes = [
+        // Frees 30 slots: all but those of 0.0.0.0/0, 128.0.0.0/1 and 192.0.0.0/2.
+        withdraw(0xFFFFFFFF, 32),
+        announce(0, 31, 6),
+        announce(0, 30, 6),
+        announce(0x40000000, 2, 7),
+        LOOK,
+        // Frees two slots: its own, and the one of 128.0.0.0/1 above it.
+        withdraw(0xC0000000, 2),
+        announce(0x40000000, 2, 7),
+        announce(0x80000000, 2, 8),
+        announce(0x80000000, 1, 9),
+        LOOK,
+    ];
+    run(lo, hi, up, hop, &changes);
 }
 
 // Room is freed and taken again within one list: only the ledger after each record decides.
@@ -79,30 +86,36 @@ fn in_turn() {
 // Case J in one slot less; the route that is refused leaves its 31 slots to others.
 fn too_small(lo: &mut [u32; 32], hi: &mut [u32; 32], up: &mut [u32; 32], hop: &mut [u32; 32]) {
     say(b"-- 32 slots: case J is refused, and leaves no trace\n");
-    apply(lo, hi, up, hop, announce(0, 0, 1));
-    apply(lo, hi, up, hop, announce(0xFFFFFFFF, 32, 2));
-    look_around(lo, hi, up, hop);
-    apply(lo, hi, up, hop, withdraw(0xFFFFFFFF, 32));
-    apply(lo, hi, up, hop, announce(0, 31, 3));
-    look_around(lo, hi, up, hop);
-    apply(lo, hi, up, hop, announce(0x80000000, 1, 4));
-    apply(lo, hi, up, hop, withdraw(0, 31));
-    apply(lo, hi, up, hop, announce(0x80000000, 31, 4));
-    look_around(lo, hi, up, hop);
+    let changes = [
+        announce(0, 0, 1),
+        announce(0xFFFFFFFF, 32, 2),
+        LOOK,
+        withdraw(0xFFFFFFFF, 32),
+        announce(0, 31, 3),
+        LOOK,
+        announce(0x80000000, 1, 4),
+        withdraw(0, 31),
+        announce(0x80000000, 31, 4),
+        LOOK,
+    ];
+    run(lo, hi, up, hop, &changes);
 }
 
 fn single(lo: &mut [u32; 1], hi: &mut [u32; 1], up: &mut [u32; 1], hop: &mut [u32; 1]) {
     say(b"-- 1 slot: only /0 fits\n");
-    apply(lo, hi, up, hop, announce(0, 1, 1));
-    apply(lo, hi, up, hop, announce(0, 0, 2));
-    apply(lo, hi, up, hop, announce(0, 1, 3));
-    look_around(lo, hi, up, hop);
-    apply(lo, hi, up, hop, announce(0, 0, 4));
-    apply(lo, hi, up, hop, withdraw(0, 1));
-    look_around(lo, hi, up, hop);
-    apply(lo, hi, up, hop, withdraw(0, 0));
-    apply(lo, hi, up, hop, withdraw(0, 0));
-    look_around(lo, hi, up, hop);
+    let changes = [
+        announce(0, 1, 1),
+        announce(0, 0, 2),
+        announce(0, 1, 3),
+        LOOK,
+        announce(0, 0, 4),
+        withdraw(0, 1),
+        LOOK,
+        withdraw(0, 0),
+        withdraw(0, 0),
+        LOOK,
+    ];
+    run(lo, hi, up, hop, &changes);
 }
 
 fn in_33_slots() {

@@ -1,12 +1,13 @@
 // Memory that our calls did not make: where `up[0]` is in range it is some ledger, and every call treats it as that ledger.
 ghost use Prim.Native.Nat.{_<_};
+use crate::change::LOOK;
 use crate::change::announce;
 use crate::change::withdraw;
 use crate::text::say;
 use crate::text::say_number;
-use crate::tried::apply;
 use crate::tried::apply_list;
 use crate::tried::look_around;
+use crate::tried::run;
 
 const HIGHEST_WORD: u32 = 0xFFFFFFFF;
 
@@ -18,28 +19,31 @@ fn set(cells: &mut [u32], at: usize, value: u32) {
 
 fn no_ledger(lo: &mut [u32; 12], hi: &mut [u32; 12], up: &mut [u32; 12], hop: &mut [u32; 12]) {
     say(b"-- 12 slots filled with 4294967295: no ledger\n");
-    apply(lo, hi, up, hop, announce(0, 0, 1));
+    run(lo, hi, up, hop, &[announce(0, 0, 1)]);
     // Rule 2 comes before rule 3.
     say(b"  7 bytes: ");
     apply_list(lo, hi, up, hop, &[0u8; 7]);
     look_around(lo, hi, up, hop);
     say(b"-- the same memory, up[0] set to 13\n");
     set(up, 0, 13);
-    apply(lo, hi, up, hop, announce(0, 0, 1));
-    look_around(lo, hi, up, hop);
+    let changes = [announce(0, 0, 1), LOOK];
+    run(lo, hi, up, hop, &changes);
 }
 
 // The free chain's head may be the number of slots, "no slot is free". Then every slot is tried, and here every one serves.
 fn empty_ledger(lo: &mut [u32; 12], hi: &mut [u32; 12], up: &mut [u32; 12], hop: &mut [u32; 12]) {
     say(b"-- the same memory, up[0] set to 12: the empty ledger\n");
     set(up, 0, 12);
-    look_around(lo, hi, up, hop);
-    apply(lo, hi, up, hop, announce(0x80000000, 11, 1));
-    apply(lo, hi, up, hop, announce(0, 1, 2));
-    look_around(lo, hi, up, hop);
-    apply(lo, hi, up, hop, withdraw(0x80000000, 11));
-    apply(lo, hi, up, hop, announce(0, 1, 2));
-    look_around(lo, hi, up, hop);
+    let changes = [
+        LOOK,
+        announce(0x80000000, 11, 1),
+        announce(0, 1, 2),
+        LOOK,
+        withdraw(0x80000000, 11),
+        announce(0, 1, 2),
+        LOOK,
+    ];
+    run(lo, hi, up, hop, &changes);
 }
 
 fn filled() {
@@ -74,15 +78,18 @@ fn scatter(cells: &mut [u32], seed: u32, bound: u32) -> u32
 
 // Three routes, which need all six slots, are announced and withdrawn, whatever else is held.
 fn come_and_go(lo: &mut [u32; 6], hi: &mut [u32; 6], up: &mut [u32; 6], hop: &mut [u32; 6]) {
-    look_around(lo, hi, up, hop);
-    apply(lo, hi, up, hop, announce(0, 0, 61));
-    apply(lo, hi, up, hop, announce(0x40000000, 2, 62));
-    apply(lo, hi, up, hop, announce(0xC0000000, 3, 63));
-    look_around(lo, hi, up, hop);
-    apply(lo, hi, up, hop, withdraw(0x40000000, 2));
-    apply(lo, hi, up, hop, withdraw(0xC0000000, 3));
-    apply(lo, hi, up, hop, withdraw(0, 0));
-    look_around(lo, hi, up, hop);
+    let changes = [
+        LOOK,
+        announce(0, 0, 61),
+        announce(0x40000000, 2, 62),
+        announce(0xC0000000, 3, 63),
+        LOOK,
+        withdraw(0x40000000, 2),
+        withdraw(0xC0000000, 3),
+        withdraw(0, 0),
+        LOOK,
+    ];
+    run(lo, hi, up, hop, &changes);
 }
 
 // Words below the bounds in each slice, and no free slot named.
@@ -111,14 +118,17 @@ fn scattered_small(seed: u32) {
 
 // Four slots, filled to the last; one route more is refused, and taken once another has gone.
 fn fill_four(lo: &mut [u32; 4], hi: &mut [u32; 4], up: &mut [u32; 4], hop: &mut [u32; 4]) {
-    look_around(lo, hi, up, hop);
-    apply(lo, hi, up, hop, announce(0x80000000, 2, 11));
-    apply(lo, hi, up, hop, announce(0, 1, 12));
-    look_around(lo, hi, up, hop);
-    apply(lo, hi, up, hop, announce(0, 2, 13));
-    apply(lo, hi, up, hop, withdraw(0x80000000, 2));
-    apply(lo, hi, up, hop, announce(0, 2, 14));
-    look_around(lo, hi, up, hop);
+    let changes = [
+        LOOK,
+        announce(0x80000000, 2, 11),
+        announce(0, 1, 12),
+        LOOK,
+        announce(0, 2, 13),
+        withdraw(0x80000000, 2),
+        announce(0, 2, 14),
+        LOOK,
+    ];
+    run(lo, hi, up, hop, &changes);
 }
 
 fn own_child() {

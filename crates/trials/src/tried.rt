@@ -1,5 +1,5 @@
 // A call, and the line that says what was tried and what it answered.
-use crate::change::Change;
+use crate::change::LOOK;
 use crate::change::bytes_of;
 use crate::change::say_change;
 use crate::text::say;
@@ -15,7 +15,7 @@ pub fn apply_list(lo: &mut [u32], hi: &mut [u32], up: &mut [u32], hop: &mut [u32
 }
 
 // One record is applied.
-pub fn apply(lo: &mut [u32], hi: &mut [u32], up: &mut [u32], hop: &mut [u32], change: Change) {
+fn apply(lo: &mut [u32], hi: &mut [u32], up: &mut [u32], hop: &mut [u32], change: u64) {
     let list = bytes_of(change);
     say(b"  ");
     say_change(change);
@@ -39,6 +39,24 @@ pub fn look_around(lo: &[u32], hi: &[u32], up: &[u32], hop: &[u32]) {
     look(lo, hi, up, hop, 0xC0000000);
     look(lo, hi, up, hop, 0xFFFFFFFF);
     say(b"\n");
+}
+
+// A record is applied, or the ledger is looked at.
+fn go(lo: &mut [u32], hi: &mut [u32], up: &mut [u32], hop: &mut [u32], change: u64) {
+    if change == LOOK {
+        look_around(lo, hi, up, hop);
+        return;
+    }
+    apply(lo, hi, up, hop, change);
+}
+
+// Records are applied, each by a call of its own, with looks around between them.
+pub fn run(lo: &mut [u32], hi: &mut [u32], up: &mut [u32], hop: &mut [u32], changes: &[u64]) {
+    let mut i: usize = 0;
+    while i < changes.len() {
+        go(lo, hi, up, hop, changes[i]);
+        i += 1;
+    }
 }
 
 // An address is looked up in a list; the line's beginning was said before.

@@ -6,10 +6,10 @@ use Rattle.trials.proofs.list_of_five.put.Statement.{statement}
 use Rattle.trials.proofs.list_of_five.put.Tie as tie
 
 abbrev Inv-loop : tie.InvT-loop
-Inv-loop list₀ place at bytes i₀ list i = i ≤ 8
+Inv-loop list₀ place change at bytes i₀ list i = i ≤ 8
 
 abbrev μ-loop : tie.MeasureT-loop
-μ-loop list₀ place at bytes i₀ list i = 8 - i
+μ-loop list₀ place change at bytes i₀ list i = 8 - i
 
 mul-at : tie.Need-mul-at Inv-loop μ-loop
 mul-at c = search needs
