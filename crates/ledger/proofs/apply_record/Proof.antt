@@ -29,13 +29,8 @@ path-of-requires c κs = search needs
 
 announce-requires : tie.Need-announce-requires
 announce-requires c κs =
-    let at-before = c .before .before .before .before .before in
-    let arm = at-before .before in
-    let entry = arm .before .before .before .before .before .before .before .before in
-    let lent = memoryOf (entry .args .lo .now) (entry .args .hi .now) (entry .args .up .now) (entry .args .hop .now) in
-    can-announce (entry .args .list .now) (entry .args .at) lent (entry .pre .0) (arm .next .given .0 .0)
-    (arm .next .given .0 .1 .0) (c .path-of .result) (c .path-of .ensures) (arm .next .given .0 .1 .1 .0)
-    (announced arm)
+    let arm = c .before .before .before .before .before .before in
+    can-announce _ _ _ (arm .before .before .before .before .before .before .before .before .pre .0) _ _ _ (c .path-of .ensures) _ (announced arm)
 
 same-length : tie.Need-same-length
 same-length c = search needs
@@ -51,17 +46,9 @@ same-length-4 c = search needs
 
 returns : tie.Need-returns
 returns c =
-    let at-announce = c .before .before .before .before .before .before .before .before .before in
-    let at-path-of = at-announce .before in
-    let at-before = at-path-of .before .before .before .before .before in
-    let arm = at-before .before in
-    let entry = arm .before .before .before .before .before .before .before .before in
-    let lent = memoryOf (entry .args .lo .now) (entry .args .hi .now) (entry .args .up .now) (entry .args .hop .now) in
-    let after-announce = memoryOf (at-announce .announce .last .0) (at-announce .announce .last .1 .0) (at-announce .announce .last .1 .1 .0) (at-announce .announce .last .1 .1 .1 .0) in
-    announcement-taken (entry .args .list .now) (entry .args .at) lent (entry .pre .0) (arm .next .given .0 .0)
-    (arm .next .given .0 .1 .0) (at-path-of .path-of .result) (at-path-of .path-of .ensures)
-    (arm .next .given .0 .1 .1 .0) (announced arm) after-announce (at-announce .announce .result)
-    (at-announce .announce .ensures) (c .if1 .taken)
+    let called = c .before .before .before .before .before .before .before .before .before in
+    let arm = called .before .before .before .before .before .before .before in
+    announcement-taken _ _ _ (arm .before .before .before .before .before .before .before .before .pre .0) _ _ _ (called .before .path-of .ensures) _ (announced arm) _ _ (called .announce .ensures) (c .if1 .taken)
 
 enum-known-next-2 : tie.Need-enum-known-next-2
 enum-known-next-2 c = search needs
@@ -71,12 +58,8 @@ path-of-requires-2 c κs = search needs
 
 withdraw-requires : tie.Need-withdraw-requires
 withdraw-requires c κs =
-    let at-before = c .before .before .before .before .before in
-    let arm = at-before .before in
-    let entry = arm .before .before .before .before .before .before .before .before in
-    let lent = memoryOf (entry .args .lo .now) (entry .args .hi .now) (entry .args .up .now) (entry .args .hop .now) in
-    can-withdraw (entry .args .list .now) (entry .args .at) lent (entry .pre .0) (arm .next2 .given .0 .0)
-    (arm .next2 .given .0 .1 .0) (c .path-of2 .result) (c .path-of2 .ensures) (withdrawn arm)
+    let arm = c .before .before .before .before .before .before in
+    can-withdraw _ _ _ (arm .before .before .before .before .before .before .before .before .pre .0) _ _ _ (c .path-of2 .ensures) (withdrawn arm)
 
 same-length-5 : tie.Need-same-length-5
 same-length-5 c = search needs
@@ -92,16 +75,9 @@ same-length-8 c = search needs
 
 returns-2 : tie.Need-returns-2
 returns-2 c =
-    let at-withdraw = c .before .before .before .before .before .before .before .before .before in
-    let at-path-of2 = at-withdraw .before in
-    let at-before = at-path-of2 .before .before .before .before .before in
-    let arm = at-before .before in
-    let entry = arm .before .before .before .before .before .before .before .before in
-    let lent = memoryOf (entry .args .lo .now) (entry .args .hi .now) (entry .args .up .now) (entry .args .hop .now) in
-    let after-withdraw = memoryOf (at-withdraw .withdraw .last .0) (at-withdraw .withdraw .last .1 .0) (at-withdraw .withdraw .last .1 .1 .0) (at-withdraw .withdraw .last .1 .1 .1 .0) in
-    withdrawal-taken (entry .args .list .now) (entry .args .at) lent (entry .pre .0) (arm .next2 .given .0 .0)
-    (arm .next2 .given .0 .1 .0) (at-path-of2 .path-of2 .result) (at-path-of2 .path-of2 .ensures) (withdrawn arm)
-    after-withdraw (at-withdraw .withdraw .result) (at-withdraw .withdraw .ensures) (c .if2 .taken)
+    let called = c .before .before .before .before .before .before .before .before .before in
+    let arm = called .before .before .before .before .before .before .before in
+    withdrawal-taken _ _ _ (arm .before .before .before .before .before .before .before .before .pre .0) _ _ _ (called .before .path-of2 .ensures) (withdrawn arm) _ _ (called .withdraw .ensures) (c .if2 .taken)
 
 enum-known-next-3 : tie.Need-enum-known-next-3
 enum-known-next-3 c = search needs
@@ -120,17 +96,9 @@ same-length-12 c = search needs
 
 returns-3 : tie.Need-returns-3
 returns-3 c =
-    let at-announce = c .before .before .before .before .before .before .before .before .before in
-    let at-path-of = at-announce .before in
-    let at-before = at-path-of .before .before .before .before .before in
-    let arm = at-before .before in
-    let entry = arm .before .before .before .before .before .before .before .before in
-    let lent = memoryOf (entry .args .lo .now) (entry .args .hi .now) (entry .args .up .now) (entry .args .hop .now) in
-    let after-announce = memoryOf (at-announce .announce .last .0) (at-announce .announce .last .1 .0) (at-announce .announce .last .1 .1 .0) (at-announce .announce .last .1 .1 .1 .0) in
-    announcement-refused (entry .args .list .now) (entry .args .at) lent (entry .pre .0) (arm .next .given .0 .0)
-    (arm .next .given .0 .1 .0) (at-path-of .path-of .result) (at-path-of .path-of .ensures)
-    (arm .next .given .0 .1 .1 .0) (announced arm) after-announce (at-announce .announce .result)
-    (at-announce .announce .ensures) (c .if1 .left)
+    let called = c .before .before .before .before .before .before .before .before .before in
+    let arm = called .before .before .before .before .before .before .before in
+    announcement-refused _ _ _ (arm .before .before .before .before .before .before .before .before .pre .0) _ _ _ (called .before .path-of .ensures) _ (announced arm) _ _ (called .announce .ensures) (c .if1 .left)
 
 same-length-13 : tie.Need-same-length-13
 same-length-13 c = search needs
@@ -146,16 +114,9 @@ same-length-16 c = search needs
 
 returns-4 : tie.Need-returns-4
 returns-4 c =
-    let at-withdraw = c .before .before .before .before .before .before .before .before .before in
-    let at-path-of2 = at-withdraw .before in
-    let at-before = at-path-of2 .before .before .before .before .before in
-    let arm = at-before .before in
-    let entry = arm .before .before .before .before .before .before .before .before in
-    let lent = memoryOf (entry .args .lo .now) (entry .args .hi .now) (entry .args .up .now) (entry .args .hop .now) in
-    let after-withdraw = memoryOf (at-withdraw .withdraw .last .0) (at-withdraw .withdraw .last .1 .0) (at-withdraw .withdraw .last .1 .1 .0) (at-withdraw .withdraw .last .1 .1 .1 .0) in
-    withdrawal-refused (entry .args .list .now) (entry .args .at) lent (entry .pre .0) (arm .next2 .given .0 .0)
-    (arm .next2 .given .0 .1 .0) (at-path-of2 .path-of2 .result) (at-path-of2 .path-of2 .ensures) (withdrawn arm)
-    after-withdraw (at-withdraw .withdraw .result) (at-withdraw .withdraw .ensures) (c .if2 .left)
+    let called = c .before .before .before .before .before .before .before .before .before in
+    let arm = called .before .before .before .before .before .before .before in
+    withdrawal-refused _ _ _ (arm .before .before .before .before .before .before .before .before .pre .0) _ _ _ (called .before .path-of2 .ensures) (withdrawn arm) _ _ (called .withdraw .ensures) (c .if2 .left)
 
 returns-5 : tie.Need-returns-5
 returns-5 c =
