@@ -37,15 +37,7 @@ prune-requires c κs =
     let at-extend = at-if1 .before .before .before .before .before .before .before .before .before in
     let turn = at-extend .before .before .before .before .before .before in
     let entry = turn .before .before .before .before .before in
-    let lent = memoryOf (entry .args .lo .now) (entry .args .hi .now) (entry .args .up .now) (entry .args .hop .now) in
-    let held = memoryOf (turn .loop .lo) (turn .loop .hi) (turn .loop .up) (turn .loop .hop) in
-    let after-extend = memoryOf (at-extend .extend .last .0) (at-extend .extend .last .1 .0) (at-extend .extend .last .1 .1 .0) (at-extend .extend .last .1 .1 .1 .0) in
-    let bits = pathBit (entry .args .path) in
-    still-on (entry .args .width) lent held bits (entry .args .size) (entry .args .neighbour) (entry .pre)
-    (turn .loop .depth) (turn .loop .slot) (turn .loop .inv .0) (turn .loop .inv .1) after-extend
-    (at-extend .extend .result)
-    (step-refused (entry .args .width) held after-extend bits (turn .loop .depth) (turn .loop .slot)
-    (at-extend .extend .result) (at-extend .extend .ensures) (at-if1 .if1 .taken))
+    still-on _ _ _ _ _ _ (entry .pre) _ _ (turn .loop .inv .0) (turn .loop .inv .1) _ _ (step-refused _ _ _ _ _ _ _ (at-extend .extend .ensures) (at-if1 .if1 .taken))
 
 returns : tie.Need-returns Inv-loop μ-loop
 returns c =
@@ -55,17 +47,7 @@ returns c =
     let at-loop-test = at-extend .before .before .before .before .before in
     let turn = at-loop-test .before in
     let entry = turn .before .before .before .before .before in
-    let lent = memoryOf (entry .args .lo .now) (entry .args .hi .now) (entry .args .up .now) (entry .args .hop .now) in
-    let held = memoryOf (turn .loop .lo) (turn .loop .hi) (turn .loop .up) (turn .loop .hop) in
-    let after-extend = memoryOf (at-extend .extend .last .0) (at-extend .extend .last .1 .0) (at-extend .extend .last .1 .1 .0) (at-extend .extend .last .1 .1 .1 .0) in
-    let after-prune = memoryOf (at-prune .prune .last .0) (at-prune .prune .last .1 .0) (at-prune .prune .last .1 .1 .0) (at-prune .prune .last .1 .1 .1 .0) in
-    let bits = pathBit (entry .args .path) in
-    announce-refused (entry .args .width) lent held bits (entry .args .size) (entry .args .neighbour) (entry .pre)
-    (turn .loop .depth) (turn .loop .slot) (turn .loop .inv .0) (turn .loop .inv .1) (at-loop-test .loop-test .taken)
-    after-extend after-prune (at-extend .extend .result)
-    (step-refused (entry .args .width) held after-extend bits (turn .loop .depth) (turn .loop .slot)
-    (at-extend .extend .result) (at-extend .extend .ensures) (at-if1 .if1 .taken))
-    (at-prune .prune .ensures)
+    announce-refused _ _ _ _ _ _ (entry .pre) _ _ (turn .loop .inv .0) (turn .loop .inv .1) (at-loop-test .loop-test .taken) _ _ _ (step-refused _ _ _ _ _ _ _ (at-extend .extend .ensures) (at-if1 .if1 .taken)) (at-prune .prune .ensures)
 
 same-length : tie.Need-same-length Inv-loop μ-loop
 same-length c = kept-lo _ _ (c .before .before .before .before .before .before .before .before .before .before .before .before .before .before .before .before .before .before .before .before .before .before .before .before .before .before .before .before .before .before .before .before .before .pre .route .whole) (returns c .kept)
@@ -91,16 +73,7 @@ loop-again c =
     let at-loop-test = at-extend .before .before .before .before .before in
     let turn = at-loop-test .before in
     let entry = turn .before .before .before .before .before in
-    let lent = memoryOf (entry .args .lo .now) (entry .args .hi .now) (entry .args .up .now) (entry .args .hop .now) in
-    let held = memoryOf (turn .loop .lo) (turn .loop .hi) (turn .loop .up) (turn .loop .hop) in
-    let after-extend = memoryOf (at-extend .extend .last .0) (at-extend .extend .last .1 .0) (at-extend .extend .last .1 .1 .0) (at-extend .extend .last .1 .1 .1 .0) in
-    let bits = pathBit (entry .args .path) in
-    go-on (entry .args .width) lent held bits (entry .args .size) (entry .args .neighbour) (entry .pre)
-    (turn .loop .depth) (turn .loop .slot) (turn .loop .inv .0) (turn .loop .inv .1) after-extend
-    (at-extend .extend .result)
-    (step-taken (entry .args .width) held after-extend bits (turn .loop .depth) (turn .loop .slot)
-    (at-extend .extend .result) (at-extend .extend .ensures) (c .if1 .left))
-    (at-loop-test .loop-test .taken)
+    go-on _ _ _ _ _ _ (entry .pre) _ _ (turn .loop .inv .0) (turn .loop .inv .1) _ _ (step-taken _ _ _ _ _ _ _ (at-extend .extend .ensures) (c .if1 .left)) (at-loop-test .loop-test .taken)
 
 add-hop : tie.Need-add-hop Inv-loop μ-loop
 add-hop c =
@@ -116,12 +89,7 @@ slice-write-hop c = omega (arith, c .before .loop .inv .1 .below, c .before .loo
 returns-2 : tie.Need-returns-2 Inv-loop μ-loop
 returns-2 c =
     let entry = c .before .before .before .before .before .before in
-    let lent = memoryOf (entry .args .lo .now) (entry .args .hi .now) (entry .args .up .now) (entry .args .hop .now) in
-    let held = memoryOf (c .before .loop .lo) (c .before .loop .hi) (c .before .loop .up) (c .before .loop .hop) in
-    let bits = pathBit (entry .args .path) in
-    announce-taken (entry .args .width) lent held bits (entry .args .size) (entry .args .neighbour) (entry .pre)
-    (c .before .loop .depth) (c .before .loop .slot) (c .before .loop .inv .0) (c .before .loop .inv .1)
-    (omega (arith, c .loop-test .left, c .before .loop .inv .2))
+    announce-taken _ _ _ _ _ _ (entry .pre) _ _ (c .before .loop .inv .0) (c .before .loop .inv .1) (omega (arith, c .loop-test .left, c .before .loop .inv .2))
 
 same-length-5 : tie.Need-same-length-5 Inv-loop μ-loop
 same-length-5 c = kept-lo _ _ (c .before .before .before .before .before .before .pre .route .whole) (returns-2 c .kept)

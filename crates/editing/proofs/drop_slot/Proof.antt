@@ -74,11 +74,7 @@ returns c =
     let at-set-link = c .before .before .before .before in
     let at-first-free = at-set-link .before .before .before in
     let entry = at-first-free .before .before .before .before .before .before in
-    stores-drop (entry .args .lo .now) (entry .args .hi .now) (entry .args .up .now) (entry .args .hop .now)
-    (entry .args .parent) (entry .args .right) (entry .args .slot) (at-first-free .first-free .result)
-    (entry .args .slot) 0 0 (at-set-link .set-link .last .0) (at-set-link .set-link .last .1 .0) (entry .pre .0)
-    (entry .pre .1) (entry .pre .2) (entry .pre .3) (entry .pre .4) (at-set-link .set-link .ensures)
-    (λ h. omega (arith, entry .pre .3)) refl refl refl (at-first-free .first-free .ensures .0)
+    stores-drop _ _ _ _ _ _ _ _ _ 0 0 (at-set-link .set-link .last .0) (at-set-link .set-link .last .1 .0) (entry .pre .0) (entry .pre .1) (entry .pre .2) (entry .pre .3) (entry .pre .4) (at-set-link .set-link .ensures) (λ h. omega (arith, entry .pre .3)) refl refl refl (at-first-free .first-free .ensures .0)
 
 pub drop-slot-spec : {M : Type 1} → statement M
 drop-slot-spec =

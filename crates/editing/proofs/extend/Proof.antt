@@ -1,7 +1,5 @@
 -- The child is there, or a spare slot is hung, or no slot may be taken.
 use mathlib.Core.Logic.{inl, inr}
-use Rattle.memory.specs.Path.{pathBit}
-use Rattle.memory.specs.Layout.{memoryOf}
 use Rattle.editing.proofs.Walking.{step-there, step-stuck, step-free, step-hung}
 use borrow.Author.Needs.{needs}
 use Rattle.editing.proofs.extend.Statement.{statement}
@@ -26,12 +24,7 @@ returns : tie.Need-returns
 returns c =
     let at-bit = c .before .before .before .before .before in
     let entry = at-bit .before .before .before .before .before in
-    let lent = memoryOf (entry .args .lo .now) (entry .args .hi .now) (entry .args .up .now) (entry .args .hop .now) in
-    let bits = pathBit (entry .args .path) in
-    inl
-    (step-there (entry .args .width) lent bits (entry .args .depth) (entry .args .slot) (entry .pre .0) (entry .pre .1)
-    (at-bit .bit .result) (c .before .child-of .result) (at-bit .bit .ensures) (c .before .child-of .ensures)
-    (c .if1 .taken))
+    inl (step-there _ _ _ _ _ (entry .pre .0) (entry .pre .1) _ _ (at-bit .bit .ensures) (c .before .child-of .ensures) (c .if1 .taken))
 
 spare-requires : tie.Need-spare-requires
 spare-requires c κs = search needs
@@ -54,12 +47,7 @@ returns-2 c =
     let at-child-of = at-if1 .before in
     let at-bit = at-child-of .before .before .before .before in
     let entry = at-bit .before .before .before .before .before in
-    let lent = memoryOf (entry .args .lo .now) (entry .args .hi .now) (entry .args .up .now) (entry .args .hop .now) in
-    let bits = pathBit (entry .args .path) in
-    inr
-    (step-stuck (entry .args .width) lent bits (entry .args .depth) (entry .args .slot) (entry .pre .0) (entry .pre .1)
-    (at-bit .bit .result) (at-child-of .child-of .result) (at-bit .bit .ensures) (at-child-of .child-of .ensures)
-    (at-if1 .if1 .left) (c .before .spare .result) (c .before .spare .ensures) (c .if2 .taken))
+    inr (step-stuck _ _ _ _ _ (entry .pre .0) (entry .pre .1) _ _ (at-bit .bit .ensures) (at-child-of .child-of .ensures) (at-if1 .if1 .left) _ (c .before .spare .ensures) (c .if2 .taken))
 
 hang-requires : tie.Need-hang-requires
 hang-requires c κs =
@@ -69,13 +57,7 @@ hang-requires c κs =
     let at-child-of = at-if1 .before in
     let at-bit = at-child-of .before .before .before .before in
     let entry = at-bit .before .before .before .before .before in
-    let lent = memoryOf (entry .args .lo .now) (entry .args .hi .now) (entry .args .up .now) (entry .args .hop .now) in
-    let bits = pathBit (entry .args .path) in
-    let free = step-free (entry .args .width) lent bits (entry .args .depth) (entry .args .slot) (entry .pre .0)
-    (entry .pre .1) (at-bit .bit .result) (at-child-of .child-of .result) (at-bit .bit .ensures)
-    (at-child-of .child-of .ensures) (at-if1 .if1 .left) (at-spare .spare .result) (at-spare .spare .ensures)
-    (at-if2 .if2 .left) in
-    (entry .pre .0 .route .whole, entry .pre .0 .below, free .positive, free .slot, free .other)
+    let free = step-free _ _ _ _ _ (entry .pre .0) (entry .pre .1) _ _ (at-bit .bit .ensures) (at-child-of .child-of .ensures) (at-if1 .if1 .left) _ (at-spare .spare .ensures) (at-if2 .if2 .left) in (entry .pre .0 .route .whole, entry .pre .0 .below, free .positive, free .slot, free .other)
 
 same-length-8 : tie.Need-same-length-8
 same-length-8 c = search needs
@@ -98,17 +80,7 @@ returns-3 c =
     let at-child-of = at-if1 .before in
     let at-bit = at-child-of .before .before .before .before in
     let entry = at-bit .before .before .before .before .before in
-    let lent = memoryOf (entry .args .lo .now) (entry .args .hi .now) (entry .args .up .now) (entry .args .hop .now) in
-    let after-hang = memoryOf (at-hang .hang .last .0) (at-hang .hang .last .1 .0) (at-hang .hang .last .1 .1 .0) (at-hang .hang .last .1 .1 .1 .0) in
-    let bits = pathBit (entry .args .path) in
-    inl
-    (step-hung (entry .args .width) lent bits (entry .args .depth) (entry .args .slot) (entry .pre .0) (entry .pre .1)
-    (at-bit .bit .result) (at-child-of .child-of .result) (at-bit .bit .ensures) (at-child-of .child-of .ensures)
-    (at-if1 .if1 .left) after-hang (at-spare .spare .result)
-    (step-free (entry .args .width) lent bits (entry .args .depth) (entry .args .slot) (entry .pre .0) (entry .pre .1)
-    (at-bit .bit .result) (at-child-of .child-of .result) (at-bit .bit .ensures) (at-child-of .child-of .ensures)
-    (at-if1 .if1 .left) (at-spare .spare .result) (at-spare .spare .ensures) (at-if2 .if2 .left))
-    (at-hang .hang .ensures))
+    inl (step-hung _ _ _ _ _ (entry .pre .0) (entry .pre .1) _ _ (at-bit .bit .ensures) (at-child-of .child-of .ensures) (at-if1 .if1 .left) _ _ (step-free _ _ _ _ _ (entry .pre .0) (entry .pre .1) _ _ (at-bit .bit .ensures) (at-child-of .child-of .ensures) (at-if1 .if1 .left) _ (at-spare .spare .ensures) (at-if2 .if2 .left)) (at-hang .hang .ensures))
 
 pub extend-spec : {M : Type 1} → statement M
 extend-spec =

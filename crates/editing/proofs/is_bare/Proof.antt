@@ -19,17 +19,11 @@ holds-requires c κs = search needs
 
 returns : tie.Need-returns
 returns c =
-    let entry = c .before .before .before .before .before .before .before in
-    let lent = memoryOf (entry .args .lo .now) (entry .args .hi .now) (entry .args .up .now) (entry .args .hop .now) in
-    sym (busy-hop lent (entry .args .left) (entry .args .slot) (sym (c .before .holds .ensures) ∙ c .if1 .taken))
+    sym (busy-hop _ _ _ (sym (c .before .holds .ensures) ∙ c .if1 .taken))
 
 returns-2 : tie.Need-returns-2
 returns-2 c =
-    let entry = c .before .before .before .before .before .before .before .before in
-    let lent = memoryOf (entry .args .lo .now) (entry .args .hi .now) (entry .args .up .now) (entry .args .hop .now) in
-    sym
-    (bare-last lent (entry .args .left) (entry .args .slot)
-    (sym (c .before .before .holds .ensures) ∙ c .before .if1 .left) (c .if2 .taken))
+    sym (bare-last _ _ _ (sym (c .before .before .holds .ensures) ∙ c .before .if1 .left) (c .if2 .taken))
 
 child-of-requires : tie.Need-child-of-requires
 child-of-requires c κs = search needs
@@ -37,12 +31,7 @@ child-of-requires c κs = search needs
 returns-3 : tie.Need-returns-3
 returns-3 c =
     let at-holds = c .before .before .before .before in
-    let entry = at-holds .before .before .before .before .before .before in
-    let lent = memoryOf (entry .args .lo .now) (entry .args .hi .now) (entry .args .up .now) (entry .args .hop .now) in
-    sym
-    (bare-first lent (entry .args .left) (entry .args .slot)
-    (sym (at-holds .holds .ensures) ∙ c .before .before .before .if1 .left) (c .before .before .if2 .left)
-    (λ e. c .if3 .taken (c .before .child-of .ensures ∙ e)))
+    sym (bare-first _ _ _ (sym (at-holds .holds .ensures) ∙ c .before .before .before .if1 .left) (c .before .before .if2 .left) (λ e. c .if3 .taken (c .before .child-of .ensures ∙ e)))
 
 child-of-requires-2 : tie.Need-child-of-requires-2
 child-of-requires-2 c κs = search needs

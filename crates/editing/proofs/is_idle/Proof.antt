@@ -1,6 +1,5 @@
 -- A slot from which going up fails has no string; any other is asked whether it is bare.
 use mathlib.Core.Path.{sym, _∙_}
-use Rattle.memory.specs.Layout.{memoryOf}
 use Rattle.editing.proofs.Rising.{idle-unplaced, idle-placed}
 use borrow.Author.Needs.{needs}
 use Rattle.editing.proofs.is_idle.Statement.{statement}
@@ -11,10 +10,7 @@ steps-left-requires c κs = search needs
 
 returns : tie.Need-returns
 returns c =
-    let entry = c .before .before .before .before .before .before in
-    let lent = memoryOf (entry .args .lo .now) (entry .args .hi .now) (entry .args .up .now) (entry .args .hop .now) in
-    sym
-    (idle-unplaced (entry .args .width) lent (entry .args .slot) (sym (c .before .steps-left .ensures) ∙ c .if1 .taken))
+    sym (idle-unplaced _ _ _ (sym (c .before .steps-left .ensures) ∙ c .if1 .taken))
 
 sub-is-bare : tie.Need-sub-is-bare
 sub-is-bare c = search needs
@@ -25,11 +21,7 @@ is-bare-requires c κs = search needs
 returns-2 : tie.Need-returns-2
 returns-2 c =
     let at-steps-left = c .before .before in
-    let entry = at-steps-left .before .before .before .before .before in
-    let lent = memoryOf (entry .args .lo .now) (entry .args .hi .now) (entry .args .up .now) (entry .args .hop .now) in
-    c .is-bare .ensures ∙ sym
-    (idle-placed (entry .args .width) lent (entry .args .slot) (at-steps-left .steps-left .result)
-    (at-steps-left .steps-left .ensures) (c .before .if1 .left))
+    c .is-bare .ensures ∙ sym (idle-placed _ _ _ _ (at-steps-left .steps-left .ensures) (c .before .if1 .left))
 
 pub is-idle-spec : {M : Type 1} → statement M
 is-idle-spec =

@@ -21,8 +21,7 @@ abbrev μ-loop : tie.MeasureT-loop
 loop-holds : tie.Need-loop-holds Inv-loop μ-loop
 loop-holds c =
     let entry = c .before .before .before .before in
-    let lent = memoryOf (entry .args .lo .now) (entry .args .hi .now) (entry .args .up .now) (entry .args .hop .now) in
-    (reworked-self (entry .args .width) lent (entry .args .slot) (entry .pre .route .whole), entry .pre)
+    (reworked-self _ _ _ (entry .pre .route .whole), entry .pre)
 
 sub-is-bare : tie.Need-sub-is-bare Inv-loop μ-loop
 sub-is-bare c = omega (arith, c .before .before .before .before .before .loop .inv .1 .route .short)
@@ -35,13 +34,7 @@ is-bare-requires c κs =
 returns : tie.Need-returns Inv-loop μ-loop
 returns c =
     let turn = c .before .before .before .before .before .before .before in
-    let entry = turn .before .before .before .before .before in
-    let lent = memoryOf (entry .args .lo .now) (entry .args .hi .now) (entry .args .up .now) (entry .args .hop .now) in
-    let held = memoryOf (turn .loop .lo) (turn .loop .hi) (turn .loop .up) (turn .loop .hop) in
-    let bits = pathBit (entry .args .path) in
-    up-ends-busy (entry .args .width) lent held bits (entry .args .slot) (turn .loop .depth) (turn .loop .at)
-    (turn .loop .inv .0) (turn .loop .inv .1)
-    (sym (c .before .is-bare .ensures) ∙ not-true (c .before .is-bare .result) (c .if1 .taken))
+    up-ends-busy _ _ _ _ _ _ _ (turn .loop .inv .0) (turn .loop .inv .1) (sym (c .before .is-bare .ensures) ∙ not-true _ (c .if1 .taken))
 
 same-length : tie.Need-same-length Inv-loop μ-loop
 same-length c = kept-lo _ _ (c .before .before .before .before .before .before .before .before .before .before .before .before .pre .route .whole) (returns c .kept)
@@ -75,15 +68,7 @@ sub-parent : tie.Need-sub-parent Inv-loop μ-loop
 sub-parent c =
     let at-loop-test = c .before .before .before .before .before .before .before .before in
     let turn = at-loop-test .before in
-    let entry = turn .before .before .before .before .before in
-    let held = memoryOf (turn .loop .lo) (turn .loop .hi) (turn .loop .up) (turn .loop .hop) in
-    let bits = pathBit (entry .args .path) in
-    omega (
-      arith,
-      above (entry .args .width) held bits (turn .loop .depth) (turn .loop .at) (c .wide .result)
-          (turn .loop .inv .1) (at-loop-test .loop-test .taken) (c .wide .ensures) .marked,
-      c .wide .ensures,
-    )
+    omega (arith, above _ _ _ _ _ _ (turn .loop .inv .1) (at-loop-test .loop-test .taken) (c .wide .ensures) .marked, c .wide .ensures)
 
 bit-requires : tie.Need-bit-requires Inv-loop μ-loop
 bit-requires c κs =
@@ -96,14 +81,7 @@ drop-slot-requires c κs =
     let at-wide = c .before .before .before .before .before in
     let at-loop-test = at-wide .before .before .before .before .before .before .before .before in
     let turn = at-loop-test .before in
-    let entry = turn .before .before .before .before .before in
-    let held = memoryOf (turn .loop .lo) (turn .loop .hi) (turn .loop .up) (turn .loop .hop) in
-    let bits = pathBit (entry .args .path) in
-    let up-there =
-    (above (entry .args .width) held bits (turn .loop .depth) (turn .loop .at) (at-wide .wide .result)
-    (turn .loop .inv .1) (at-loop-test .loop-test .taken) (at-wide .wide .ensures))
-    in
-    (turn .loop .inv .1 .route .whole, up-there .below, up-there .positive, turn .loop .inv .1 .below, up-there .other)
+    let up-there = (above _ _ _ _ _ _ (turn .loop .inv .1) (at-loop-test .loop-test .taken) (at-wide .wide .ensures)) in (turn .loop .inv .1 .route .whole, up-there .below, up-there .positive, turn .loop .inv .1 .below, up-there .other)
 
 loop-less : tie.Need-loop-less Inv-loop μ-loop
 loop-less c = omega arith
@@ -117,32 +95,11 @@ loop-again c =
     let at-is-bare = at-if1 .before in
     let at-loop-test = at-is-bare .before .before .before .before .before in
     let turn = at-loop-test .before in
-    let entry = turn .before .before .before .before .before in
-    let held = memoryOf (turn .loop .lo) (turn .loop .hi) (turn .loop .up) (turn .loop .hop) in
-    let lent = memoryOf (entry .args .lo .now) (entry .args .hi .now) (entry .args .up .now) (entry .args .hop .now) in
-    let bits = pathBit (entry .args .path) in
-    let after = memoryOf (at-drop-slot .drop-slot .last .0) (at-drop-slot .drop-slot .last .1 .0)
-    (at-drop-slot .drop-slot .last .1 .1 .0) (at-drop-slot .drop-slot .last .1 .1 .1 .0) in let parent =
-    (at-wide .wide .result - 1) / 2 in let up-one = step-up (entry .args .width) held after bits (turn .loop .depth)
-    (turn .loop .at) parent (at-bit .bit .result) (turn .loop .inv .1) (at-loop-test .loop-test .taken)
-    (above (entry .args .width) held bits (turn .loop .depth) (turn .loop .at) (at-wide .wide .result)
-    (turn .loop .inv .1) (at-loop-test .loop-test .taken) (at-wide .wide .ensures))
-    (at-bit .bit .ensures)
-    (sym (at-is-bare .is-bare .ensures) ∙ not-false (at-is-bare .is-bare .result) (at-if1 .if1 .left))
-    (at-drop-slot .drop-slot .ensures) in (
-      reworked-then (entry .args .width) lent held after (entry .args .slot) (turn .loop .at) parent
-          (turn .loop .inv .0) (up-one .0),
-      up-one .1,
-    )
+    let after = memoryOf (at-drop-slot .drop-slot .last .0) (at-drop-slot .drop-slot .last .1 .0) (at-drop-slot .drop-slot .last .1 .1 .0) (at-drop-slot .drop-slot .last .1 .1 .1 .0) in let parent = (at-wide .wide .result - 1) / 2 in let up-one = step-up _ _ after _ _ _ parent _ (turn .loop .inv .1) (at-loop-test .loop-test .taken) (above _ _ _ _ _ _ (turn .loop .inv .1) (at-loop-test .loop-test .taken) (at-wide .wide .ensures)) (at-bit .bit .ensures) (sym (at-is-bare .is-bare .ensures) ∙ not-false _ (at-if1 .if1 .left)) (at-drop-slot .drop-slot .ensures) in (reworked-then _ _ _ after _ _ parent (turn .loop .inv .0) (up-one .0), up-one .1)
 
 returns-2 : tie.Need-returns-2 Inv-loop μ-loop
 returns-2 c =
-    let entry = c .before .before .before .before .before .before in
-    let lent = memoryOf (entry .args .lo .now) (entry .args .hi .now) (entry .args .up .now) (entry .args .hop .now) in
-    let held = memoryOf (c .before .loop .lo) (c .before .loop .hi) (c .before .loop .up) (c .before .loop .hop) in
-    let bits = pathBit (entry .args .path) in
-    up-ends-first (entry .args .width) lent held bits (entry .args .slot) (c .before .loop .depth)
-    (c .before .loop .at) (c .before .loop .inv .0) (c .before .loop .inv .1) (c .loop-test .left)
+    up-ends-first _ _ _ _ _ _ _ (c .before .loop .inv .0) (c .before .loop .inv .1) (c .loop-test .left)
 
 same-length-5 : tie.Need-same-length-5 Inv-loop μ-loop
 same-length-5 c = kept-lo _ _ (c .before .before .before .before .before .before .pre .route .whole) (returns-2 c .kept)

@@ -20,13 +20,15 @@ same-length : tie.Need-same-length
 same-length c = search needs
 
 returns : tie.Need-returns
-returns c = link-set-hi (c .before .args .lo .now) (c .before .args .hi .now) (c .before .args .slot) (c .before .args .value) (c .before .args .right) (c .if1 .taken) (c .before .pre .1)
+returns c =
+    link-set-hi _ _ _ _ _ (c .if1 .taken) (c .before .pre .1)
 
 same-length-2 : tie.Need-same-length-2
 same-length-2 c = search needs
 
 returns-2 : tie.Need-returns-2
-returns-2 c = link-set-lo (c .before .args .lo .now) (c .before .args .hi .now) (c .before .args .slot) (c .before .args .value) (c .before .args .right) (c .if1 .left) (c .before .pre .0)
+returns-2 c =
+    link-set-lo _ _ _ _ _ (c .if1 .left) (c .before .pre .0)
 
 pub set-link-spec : {M : Type 1} → statement M
 set-link-spec =

@@ -33,10 +33,7 @@ shared-slice-read-if3 c = search needs
 returns : tie.Need-returns Inv-loop μ-loop
 returns c =
     let at-first-free = c .before .before .before .before in
-    let entry = at-first-free .before .before .before .before .before .before in
-    let lent = memoryOf (entry .args .lo .now) (entry .args .hi .now) (entry .args .up .now) (entry .args .hop .now) in
-    inl record
-    { positive = at-first-free .first-free .ensures .1; slot = c .before .before .before .if1 .taken; other = c .before .before .if2 .taken; unused = idle-unmarked (entry .args .width) lent (at-first-free .first-free .result) (at-first-free .first-free .ensures .1) (c .if3 .taken); hinted = λ h. at-first-free .first-free .ensures .0 }
+    inl record { positive = at-first-free .first-free .ensures .1; slot = c .before .before .before .if1 .taken; other = c .before .before .if2 .taken; unused = idle-unmarked _ _ _ (at-first-free .first-free .ensures .1) (c .if3 .taken); hinted = λ h. at-first-free .first-free .ensures .0 }
 
 loop-holds : tie.Need-loop-holds Inv-loop μ-loop
 loop-holds c =
@@ -66,14 +63,7 @@ loop-less c = omega arith
 loop-again : tie.Need-loop-again Inv-loop μ-loop
 loop-again c =
     let turn = c .before .before in
-    let entry = turn .before .before .before .before .before .before .before .before in
-    let lent = memoryOf (entry .args .lo .now) (entry .args .hi .now) (entry .args .up .now) (entry .args .hop .now) in (
-      omega (arith, turn .loop .inv .0),
-      omega (arith, c .before .loop-test .taken),
-      all-before (entry .args .width)
-          lent (entry .args .tip) (turn .loop .slot) (turn .loop .inv .2)
-          (⊎-elim (λ x other. sym (x .1 .ensures) ∙ x .2 .left) (λ x other. absurd (other (x .left))) (c .if4 .came)),
-    )
+    let lent = memoryOf _ _ _ _ in (omega (arith, turn .loop .inv .0), omega (arith, c .before .loop-test .taken), all-before _ lent _ _ (turn .loop .inv .2) (⊎-elim (λ x other. sym (x .1 .ensures) ∙ x .2 .left) (λ x other. absurd (other (x .left))) (c .if4 .came)))
 
 returns-3 : tie.Need-returns-3 Inv-loop μ-loop
 returns-3 c = inr record { none = refl; all-used = λ j p l other. c .before .loop .inv .2 j p (omega (arith, c .loop-test .left)) other }

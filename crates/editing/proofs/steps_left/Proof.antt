@@ -96,15 +96,7 @@ loop-again c =
     let at-if1 = at-wide .before .before in
     let at-loop-test = at-if1 .before in
     let turn = at-loop-test .before in
-    let entry = turn .before .before .before .before in
-    let links = treeOf (entry .args .lo .now) (entry .args .hi .now) (entry .args .up .now) in (
-      c .before .before .if3 .left,
-      omega arith,
-      turn .loop .inv .2 ∙ rises-on links (turn .loop .left) (turn .loop .at)
-          (at-wide .wide .result) (c .before .link-of .result) (at-wide .wide .ensures) (c .before .link-of .ensures)
-          (at-loop-test .loop-test .taken) (not-none _ (at-if1 .if1 .left)) (c .before .before .before .if2 .left)
-          (c .if4 .left),
-    )
+    let links = treeOf _ _ _ in (c .before .before .if3 .left, omega arith, turn .loop .inv .2 ∙ rises-on links _ _ (at-wide .wide .result) _ (at-wide .wide .ensures) (c .before .link-of .ensures) (at-loop-test .loop-test .taken) (not-none _ (at-if1 .if1 .left)) (c .before .before .before .if2 .left) (c .if4 .left))
 
 add-result : tie.Need-add-result Inv-loop μ-loop
 add-result c = search needs

@@ -1,8 +1,6 @@
 -- The slot is looked for; where it holds a hop, that is set to none and what is bare now is freed.
 use mathlib.Core.Path.{sym, _∙_}
 use borrow.Author.Tests.{not-true, not-false}
-use Rattle.memory.specs.Path.{pathBit}
-use Rattle.memory.specs.Layout.{memoryOf}
 use Rattle.editing.proofs.Ending.{withdraw-no-slot, withdraw-no-hop, unheld-on, withdraw-taken}
 use borrow.Author.Needs.{needs}
 use Rattle.editing.proofs.withdraw.Statement.{statement}
@@ -23,10 +21,7 @@ same-length-3 c = search needs
 returns : tie.Need-returns
 returns c =
     let entry = c .before .before .before .before .before .before .before .before .before in
-    let lent = memoryOf (entry .args .lo .now) (entry .args .hi .now) (entry .args .up .now) (entry .args .hop .now) in
-    let bits = pathBit (entry .args .path) in
-    withdraw-no-slot (entry .args .width) lent bits (entry .args .size) (c .before .seek .result) (entry .pre)
-    (c .before .seek .ensures) (c .if1 .taken)
+    withdraw-no-slot _ _ _ _ _ (entry .pre) (c .before .seek .ensures) (c .if1 .taken)
 
 mul-holds : tie.Need-mul-holds
 mul-holds c = search needs
@@ -50,10 +45,7 @@ returns-2 : tie.Need-returns-2
 returns-2 c =
     let at-seek = c .before .before .before .before in
     let entry = at-seek .before .before .before .before .before .before .before .before in
-    let lent = memoryOf (entry .args .lo .now) (entry .args .hi .now) (entry .args .up .now) (entry .args .hop .now) in
-    let bits = pathBit (entry .args .path) in
-    withdraw-no-hop (entry .args .width) lent bits (entry .args .size) (at-seek .seek .result) (entry .pre)
-    (at-seek .seek .ensures) (sym (c .before .holds .ensures) ∙ not-true (c .before .holds .result) (c .if2 .taken))
+    withdraw-no-hop _ _ _ _ _ (entry .pre) (at-seek .seek .ensures) (sym (c .before .holds .ensures) ∙ not-true _ (c .if2 .taken))
 
 mul-hop : tie.Need-mul-hop
 mul-hop c = search needs
@@ -66,10 +58,7 @@ prune-requires c κs =
     let at-if1 = c .before .before .before .before .before .before .before in
     let at-seek = at-if1 .before in
     let entry = at-seek .before .before .before .before .before .before .before .before in
-    let lent = memoryOf (entry .args .lo .now) (entry .args .hi .now) (entry .args .up .now) (entry .args .hop .now) in
-    let bits = pathBit (entry .args .path) in
-    unheld-on (entry .args .width) lent bits (entry .args .size) (at-seek .seek .result) (entry .pre)
-    (at-seek .seek .ensures) (at-if1 .if1 .left)
+    unheld-on _ _ _ _ _ (entry .pre) (at-seek .seek .ensures) (at-if1 .if1 .left)
 
 same-length-7 : tie.Need-same-length-7
 same-length-7 c = search needs
@@ -91,13 +80,7 @@ returns-3 c =
     let at-if1 = at-holds .before .before in
     let at-seek = at-if1 .before in
     let entry = at-seek .before .before .before .before .before .before .before .before in
-    let lent = memoryOf (entry .args .lo .now) (entry .args .hi .now) (entry .args .up .now) (entry .args .hop .now) in
-    let after-prune = memoryOf (at-prune .prune .last .0) (at-prune .prune .last .1 .0) (at-prune .prune .last .1 .1 .0) (at-prune .prune .last .1 .1 .1 .0) in
-    let bits = pathBit (entry .args .path) in
-    withdraw-taken (entry .args .width) lent bits (entry .args .size) (at-seek .seek .result) (entry .pre)
-    (at-seek .seek .ensures) (at-if1 .if1 .left)
-    (sym (at-holds .holds .ensures) ∙ not-false (at-holds .holds .result) (at-if2 .if2 .left)) after-prune
-    (at-prune .prune .ensures)
+    withdraw-taken _ _ _ _ _ (entry .pre) (at-seek .seek .ensures) (at-if1 .if1 .left) (sym (at-holds .holds .ensures) ∙ not-false _ (at-if2 .if2 .left)) _ (at-prune .prune .ensures)
 
 pub withdraw-spec : {M : Type 1} → statement M
 withdraw-spec =

@@ -3,7 +3,6 @@ use mathlib.Core.Path.{subst}
 use mathlib.Core.Bool.{true}
 use Rattle.records.specs.declared.Record.the-variants.{Announces, Withdraws}
 use Rattle.records.specs.Promise.{ReadsRecord}
-use Rattle.memory.specs.Layout.{memoryOf}
 use Rattle.ledger.proofs.Applying.{applies-faulty, can-announce, announcement-taken, announcement-refused, can-withdraw, withdrawal-taken, withdrawal-refused}
 use borrow.Author.Needs.{needs}
 use Rattle.ledger.proofs.apply_record.Statement.{statement}
@@ -121,9 +120,7 @@ returns-4 c =
 returns-5 : tie.Need-returns-5
 returns-5 c =
     let entry = c .before .before .before .before .before .before .before .before .before in
-    let lent = memoryOf (entry .args .lo .now) (entry .args .hi .now) (entry .args .up .now) (entry .args .hop .now) in
-    applies-faulty (entry .args .list .now) (entry .args .at) lent (entry .pre .0) _
-    (subst (ReadsRecord _ _ true) (c .before .next3 .given .1) (c .before .before .before .read-record .ensures))
+    applies-faulty _ _ _ (entry .pre .0) _ (subst (ReadsRecord _ _ true) (c .before .next3 .given .1) (c .before .before .before .read-record .ensures))
 
 pub apply-record-spec : {M : Type 1} → statement M
 apply-record-spec =

@@ -1,6 +1,5 @@
 -- The tests are those of rule 1 one after another, and then that of rule 2.
 use native.Mathlib.Omega.{arith}
-use Rattle.memory.specs.Layout.{memoryOf}
 use Rattle.ledger.proofs.Faults.{fault-slices, fault-ledger, no-fault}
 use borrow.Author.Needs.{needs}
 use Rattle.ledger.proofs.lent_fault.Statement.{statement}
@@ -8,33 +7,23 @@ use Rattle.ledger.proofs.lent_fault.Tie as tie
 
 returns : tie.Need-returns
 returns c =
-    let entry = c .before .before .before .before .before in
-    let lent = memoryOf (entry .args .lo .now) (entry .args .hi .now) (entry .args .up .now) (entry .args .hop .now) in
-    fault-slices lent (λ g. c .if1 .taken (g .los))
+    fault-slices _ (λ g. c .if1 .taken (g .los))
 
 returns-2 : tie.Need-returns-2
 returns-2 c =
-    let entry = c .before .before .before .before .before .before in
-    let lent = memoryOf (entry .args .lo .now) (entry .args .hi .now) (entry .args .up .now) (entry .args .hop .now) in
-    fault-slices lent (λ g. c .if2 .taken (g .his))
+    fault-slices _ (λ g. c .if2 .taken (g .his))
 
 returns-3 : tie.Need-returns-3
 returns-3 c =
-    let entry = c .before .before .before .before .before .before .before in
-    let lent = memoryOf (entry .args .lo .now) (entry .args .hi .now) (entry .args .up .now) (entry .args .hop .now) in
-    fault-slices lent (λ g. c .if3 .taken (g .hops))
+    fault-slices _ (λ g. c .if3 .taken (g .hops))
 
 returns-4 : tie.Need-returns-4
 returns-4 c =
-    let entry = c .before .before .before .before .before .before .before .before in
-    let lent = memoryOf (entry .args .lo .now) (entry .args .hi .now) (entry .args .up .now) (entry .args .hop .now) in
-    fault-slices lent (λ g. g .some-slot (c .if4 .taken))
+    fault-slices _ (λ g. g .some-slot (c .if4 .taken))
 
 returns-5 : tie.Need-returns-5
 returns-5 c =
-    let entry = c .before .before .before .before .before .before .before .before .before in
-    let lent = memoryOf (entry .args .lo .now) (entry .args .hi .now) (entry .args .up .now) (entry .args .hop .now) in
-    fault-slices lent (λ g. omega (arith, g .few, c .if5 .taken))
+    fault-slices _ (λ g. omega (arith, g .few, c .if5 .taken))
 
 shared-slice-read-wide : tie.Need-shared-slice-read-wide
 shared-slice-read-wide c = search needs
@@ -48,11 +37,7 @@ returns-6 c =
     let at-if3 = at-if4 .before in
     let at-if2 = at-if3 .before in
     let at-if1 = at-if2 .before in
-    let entry = at-if1 .before .before .before .before .before in
-    let lent = memoryOf (entry .args .lo .now) (entry .args .hi .now) (entry .args .up .now) (entry .args .hop .now) in
-    fault-ledger lent record
-    { los = at-if1 .if1 .left; his = at-if2 .if2 .left; hops = at-if3 .if3 .left; some-slot = at-if4 .if4 .left; few = c .before .before .before .if5 .left }
-    (omega (arith, c .if6 .taken, c .before .wide .ensures))
+    fault-ledger _ record { los = at-if1 .if1 .left; his = at-if2 .if2 .left; hops = at-if3 .if3 .left; some-slot = at-if4 .if4 .left; few = c .before .before .before .if5 .left } (omega (arith, c .if6 .taken, c .before .wide .ensures))
 
 returns-7 : tie.Need-returns-7
 returns-7 c =
@@ -60,11 +45,7 @@ returns-7 c =
     let at-if3 = at-if4 .before in
     let at-if2 = at-if3 .before in
     let at-if1 = at-if2 .before in
-    let entry = at-if1 .before .before .before .before .before in
-    let lent = memoryOf (entry .args .lo .now) (entry .args .hi .now) (entry .args .up .now) (entry .args .hop .now) in
-    no-fault lent record
-    { los = at-if1 .if1 .left; his = at-if2 .if2 .left; hops = at-if3 .if3 .left; some-slot = at-if4 .if4 .left; few = c .before .before .before .if5 .left }
-    (omega (arith, c .if6 .left, c .before .wide .ensures))
+    no-fault _ record { los = at-if1 .if1 .left; his = at-if2 .if2 .left; hops = at-if3 .if3 .left; some-slot = at-if4 .if4 .left; few = c .before .before .before .if5 .left } (omega (arith, c .if6 .left, c .before .wide .ensures))
 
 pub lent-fault-spec : {M : Type 1} → statement M
 lent-fault-spec =

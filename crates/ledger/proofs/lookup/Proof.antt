@@ -1,6 +1,5 @@
 -- The whole call is refused by its rules, or the path is walked.
 use native.Mathlib.Omega.{arith}
-use Rattle.memory.specs.Layout.{memoryOf}
 use Rattle.ledger.proofs.Batch.{lookup-refused, lookup-found}
 use borrow.Author.Needs.{needs}
 use Rattle.ledger.proofs.lookup.Statement.{statement}
@@ -11,10 +10,7 @@ lent-fault-requires c κs = search needs
 
 returns : tie.Need-returns
 returns c =
-    let entry = c .before .before .before .before .before .before in
-    let lent = memoryOf (entry .args .lo .now) (entry .args .hi .now) (entry .args .up .now) (entry .args .hop .now) in
-    lookup-refused lent (entry .args .address) (c .before .lent-fault .result) (c .before .lent-fault .ensures)
-    (c .if1 .taken)
+    lookup-refused _ _ _ (c .before .lent-fault .ensures) (c .if1 .taken)
 
 path-of-requires : tie.Need-path-of-requires
 path-of-requires c κs = search needs
@@ -25,11 +21,7 @@ longest-match-requires c κs = (c .before .before .lent-fault .ensures .fine (c 
 returns-2 : tie.Need-returns-2
 returns-2 c =
     let at-lent-fault = c .before .before .before in
-    let entry = at-lent-fault .before .before .before .before .before in
-    let lent = memoryOf (entry .args .lo .now) (entry .args .hi .now) (entry .args .up .now) (entry .args .hop .now) in
-    lookup-found lent (entry .args .address) (at-lent-fault .lent-fault .result) (at-lent-fault .lent-fault .ensures)
-    (c .before .before .if1 .left) (c .before .path-of .result) (c .before .path-of .ensures)
-    (c .longest-match .result) (c .longest-match .ensures)
+    lookup-found _ _ _ (at-lent-fault .lent-fault .ensures) (c .before .before .if1 .left) _ (c .before .path-of .ensures) _ (c .longest-match .ensures)
 
 pub lookup-spec : {M : Type 1} → statement M
 lookup-spec =

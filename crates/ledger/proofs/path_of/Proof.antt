@@ -8,7 +8,8 @@ mul-t3 : tie.Need-mul-t3
 mul-t3 c = search needs
 
 returns : tie.Need-returns
-returns c = path-bits (c .args .address)
+returns c =
+    path-bits _
 
 pub path-of-spec : {M : Type 1} → statement M
 path-of-spec = tie.close (tie.spec mul-t3 returns)

@@ -31,10 +31,7 @@ same-length-4 c = search needs
 
 returns : tie.Need-returns Inv-loop μ-loop
 returns c =
-    let entry = c .before .before .before .before .before .before .before .before .before .before .before in
-    let lent = memoryOf (entry .args .lo .now) (entry .args .hi .now) (entry .args .up .now) (entry .args .hop .now) in
-    refused-whole lent (entry .args .list .now) (c .before .lent-fault .result) (c .before .lent-fault .ensures)
-    (c .if1 .taken)
+    refused-whole _ _ _ (c .before .lent-fault .ensures) (c .if1 .taken)
 
 same-length-5 : tie.Need-same-length-5 Inv-loop μ-loop
 same-length-5 c = search needs
@@ -51,10 +48,7 @@ same-length-8 c = search needs
 returns-2 : tie.Need-returns-2 Inv-loop μ-loop
 returns-2 c =
     let at-lent-fault = c .before .before in
-    let entry = at-lent-fault .before .before .before .before .before .before .before .before .before .before in
-    let lent = memoryOf (entry .args .lo .now) (entry .args .hi .now) (entry .args .up .now) (entry .args .hop .now) in
-    refused-list lent (entry .args .list .now) (at-lent-fault .lent-fault .result)
-    (at-lent-fault .lent-fault .ensures) (c .before .if1 .left) (c .if2 .taken)
+    refused-list _ _ _ (at-lent-fault .lent-fault .ensures) (c .before .if1 .left) (c .if2 .taken)
 
 mask-table-requires : tie.Need-mask-table-requires Inv-loop μ-loop
 mask-table-requires c κs = search needs
@@ -62,10 +56,7 @@ mask-table-requires c κs = search needs
 loop-holds : tie.Need-loop-holds Inv-loop μ-loop
 loop-holds c =
     let at-lent-fault = c .before .before .before in
-    let entry = at-lent-fault .before .before .before .before .before .before .before .before .before .before in
-    let lent = memoryOf (entry .args .lo .now) (entry .args .hi .now) (entry .args .up .now) (entry .args .hop .now) in
-    begin lent (entry .args .list .now) (at-lent-fault .lent-fault .result) (at-lent-fault .lent-fault .ensures)
-    (c .before .before .if1 .left) (c .before .if2 .left)
+    begin _ _ _ (at-lent-fault .lent-fault .ensures) (c .before .before .if1 .left) (c .before .if2 .left)
 
 apply-record-requires : tie.Need-apply-record-requires Inv-loop μ-loop
 apply-record-requires c κs =
@@ -75,13 +66,7 @@ apply-record-requires c κs =
     let at-if2 = at-mask-table .before in
     let at-if1 = at-if2 .before in
     let at-lent-fault = at-if1 .before in
-    let entry = at-lent-fault .before .before .before .before .before .before .before .before .before .before in
-    let lent = memoryOf (entry .args .lo .now) (entry .args .hi .now) (entry .args .up .now) (entry .args .hop .now) in
-    let held = memoryOf (turn .loop .lo) (turn .loop .hi) (turn .loop .up) (turn .loop .hop) in (
-      turn .loop .inv .kept .whole,
-      record
-          { whole = fits-here lent (entry .args .list .now) (at-lent-fault .lent-fault .result) (at-lent-fault .lent-fault .ensures) (at-if1 .if1 .left) (at-if2 .if2 .left) held (turn .loop .at) (turn .loop .count) (turn .loop .inv) (at-loop-test .loop-test .taken); table = at-mask-table .mask-table .ensures },
-    )
+    let held = memoryOf _ _ _ _ in (turn .loop .inv .kept .whole, record { whole = fits-here _ _ _ (at-lent-fault .lent-fault .ensures) (at-if1 .if1 .left) (at-if2 .if2 .left) held _ _ (turn .loop .inv) (at-loop-test .loop-test .taken); table = at-mask-table .mask-table .ensures })
 
 returns-3 : tie.Need-returns-3 Inv-loop μ-loop
 returns-3 c =
@@ -91,14 +76,7 @@ returns-3 c =
     let at-if2 = turn .before .before in
     let at-if1 = at-if2 .before in
     let at-lent-fault = at-if1 .before in
-    let entry = at-lent-fault .before .before .before .before .before .before .before .before .before .before in
-    let lent = memoryOf (entry .args .lo .now) (entry .args .hi .now) (entry .args .up .now) (entry .args .hop .now) in
-    let held = memoryOf (turn .loop .lo) (turn .loop .hi) (turn .loop .up) (turn .loop .hop) in
-    let after-apply-record = memoryOf (at-apply-record .apply-record .last .0) (at-apply-record .apply-record .last .1 .0) (at-apply-record .apply-record .last .1 .1 .0) (at-apply-record .apply-record .last .1 .1 .1 .0) in
-    stopped lent (entry .args .list .now) (at-lent-fault .lent-fault .result) (at-lent-fault .lent-fault .ensures)
-    (at-if1 .if1 .left) (at-if2 .if2 .left) held (turn .loop .at) (turn .loop .count) (turn .loop .inv)
-    (at-loop-test .loop-test .taken) after-apply-record (at-apply-record .apply-record .result)
-    (at-apply-record .apply-record .ensures) (c .if3 .taken)
+    stopped _ _ _ (at-lent-fault .lent-fault .ensures) (at-if1 .if1 .left) (at-if2 .if2 .left) _ _ _ (turn .loop .inv) (at-loop-test .loop-test .taken) _ _ (at-apply-record .apply-record .ensures) (c .if3 .taken)
 
 same-length-9 : tie.Need-same-length-9 Inv-loop μ-loop
 same-length-9 c = returns-3 c .same-lengths .los
@@ -120,15 +98,7 @@ add-at c =
     let at-if1 = at-if2 .before in
     let at-lent-fault = at-if1 .before in
     let entry = at-lent-fault .before .before .before .before .before .before .before .before .before .before in
-    let lent = memoryOf (entry .args .lo .now) (entry .args .hi .now) (entry .args .up .now) (entry .args .hop .now) in
-    let held = memoryOf (turn .loop .lo) (turn .loop .hi) (turn .loop .up) (turn .loop .hop) in
-    omega (
-      arith,
-      entry .good .1 .1 .1 .1 .0 .0,
-      fits-here lent (entry .args .list .now) (at-lent-fault .lent-fault .result)
-          (at-lent-fault .lent-fault .ensures) (at-if1 .if1 .left) (at-if2 .if2 .left) held (turn .loop .at)
-          (turn .loop .count) (turn .loop .inv) (at-loop-test .loop-test .taken),
-    )
+    omega (arith, entry .good .1 .1 .1 .1 .0 .0, fits-here _ _ _ (at-lent-fault .lent-fault .ensures) (at-if1 .if1 .left) (at-if2 .if2 .left) _ _ (turn .loop .count) (turn .loop .inv) (at-loop-test .loop-test .taken))
 
 add-count : tie.Need-add-count Inv-loop μ-loop
 add-count c =
@@ -138,16 +108,7 @@ add-count c =
     let at-if1 = at-if2 .before in
     let at-lent-fault = at-if1 .before in
     let entry = at-lent-fault .before .before .before .before .before .before .before .before .before .before in
-    let lent = memoryOf (entry .args .lo .now) (entry .args .hi .now) (entry .args .up .now) (entry .args .hop .now) in
-    let held = memoryOf (turn .loop .lo) (turn .loop .hi) (turn .loop .up) (turn .loop .hop) in
-    omega (
-      arith,
-      entry .good .1 .1 .1 .1 .0 .0,
-      count-fits lent (entry .args .list .now) (at-lent-fault .lent-fault .result)
-          (at-lent-fault .lent-fault .ensures) (at-if1 .if1 .left) (at-if2 .if2 .left) held (turn .loop .at)
-          (turn .loop .count) (turn .loop .inv),
-      at-loop-test .loop-test .taken,
-    )
+    omega (arith, entry .good .1 .1 .1 .1 .0 .0, count-fits _ _ _ (at-lent-fault .lent-fault .ensures) (at-if1 .if1 .left) (at-if2 .if2 .left) _ _ (turn .loop .count) (turn .loop .inv), at-loop-test .loop-test .taken)
 
 loop-less : tie.Need-loop-less Inv-loop μ-loop
 loop-less c =
@@ -162,25 +123,13 @@ loop-again c =
     let at-if2 = turn .before .before in
     let at-if1 = at-if2 .before in
     let at-lent-fault = at-if1 .before in
-    let entry = at-lent-fault .before .before .before .before .before .before .before .before .before .before in
-    let lent = memoryOf (entry .args .lo .now) (entry .args .hi .now) (entry .args .up .now) (entry .args .hop .now) in
-    let held = memoryOf (turn .loop .lo) (turn .loop .hi) (turn .loop .up) (turn .loop .hop) in
-    let after-apply-record = memoryOf (at-apply-record .apply-record .last .0) (at-apply-record .apply-record .last .1 .0) (at-apply-record .apply-record .last .1 .1 .0) (at-apply-record .apply-record .last .1 .1 .1 .0) in
-    go-on lent (entry .args .list .now) (at-lent-fault .lent-fault .result) (at-lent-fault .lent-fault .ensures)
-    (at-if1 .if1 .left) (at-if2 .if2 .left) held (turn .loop .at) (turn .loop .count) (turn .loop .inv)
-    (at-loop-test .loop-test .taken) after-apply-record (at-apply-record .apply-record .result)
-    (at-apply-record .apply-record .ensures) (c .if3 .left)
+    go-on _ _ _ (at-lent-fault .lent-fault .ensures) (at-if1 .if1 .left) (at-if2 .if2 .left) _ _ _ (turn .loop .inv) (at-loop-test .loop-test .taken) _ _ (at-apply-record .apply-record .ensures) (c .if3 .left)
 
 returns-4 : tie.Need-returns-4 Inv-loop μ-loop
 returns-4 c =
     let at-if1 = c .before .before .before .before in
     let at-lent-fault = at-if1 .before in
-    let entry = at-lent-fault .before .before .before .before .before .before .before .before .before .before in
-    let lent = memoryOf (entry .args .lo .now) (entry .args .hi .now) (entry .args .up .now) (entry .args .hop .now) in
-    let held = memoryOf (c .before .loop .lo) (c .before .loop .hi) (c .before .loop .up) (c .before .loop .hop) in
-    finished lent (entry .args .list .now) (at-lent-fault .lent-fault .result) (at-lent-fault .lent-fault .ensures)
-    (at-if1 .if1 .left) (c .before .before .before .if2 .left) held (c .before .loop .at) (c .before .loop .count)
-    (c .before .loop .inv) (c .loop-test .left)
+    finished _ _ _ (at-lent-fault .lent-fault .ensures) (at-if1 .if1 .left) (c .before .before .before .if2 .left) _ _ _ (c .before .loop .inv) (c .loop-test .left)
 
 same-length-13 : tie.Need-same-length-13 Inv-loop μ-loop
 same-length-13 c = returns-4 c .same-lengths .los

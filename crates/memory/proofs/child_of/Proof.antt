@@ -1,7 +1,6 @@
 -- The tests are those of a link that counts: it is not 0, it names a slot, and that slot carries the mark.
 use mathlib.Core.Path.{_∙_, sym}
 use native.Mathlib.Omega.{arith}
-use Rattle.memory.specs.Layout.{treeOf}
 use Rattle.memory.proofs.Find.{child-none, child-counts, counts-below}
 use borrow.Author.Needs.{needs}
 use Rattle.memory.proofs.child_of.Statement.{statement}
@@ -12,19 +11,12 @@ link-of-requires c κs = search needs
 
 returns : tie.Need-returns
 returns c =
-    let entry = c .before .before .before .before .before in
-    let links = treeOf (entry .args .lo .now) (entry .args .hi .now) (entry .args .up .now) in
-    child-none links (entry .args .right) (entry .args .slot) (c .before .link-of .result)
-    (c .before .link-of .ensures) (λ k. omega (arith, k .positive))
+    child-none _ _ _ _ (c .before .link-of .ensures) (λ k. omega (arith, k .positive))
 
 returns-2 : tie.Need-returns-2
 returns-2 c =
     let at-link-of = c .before .before in
-    let entry = at-link-of .before .before .before .before in
-    let links = treeOf (entry .args .lo .now) (entry .args .hi .now) (entry .args .up .now) in
-    child-none links (entry .args .right) (entry .args .slot) (at-link-of .link-of .result)
-    (at-link-of .link-of .ensures)
-    (λ k. omega (arith, counts-below links (entry .args .right) (entry .args .slot) _ k))
+    child-none _ _ _ _ (at-link-of .link-of .ensures) (λ k. omega (arith, counts-below _ _ _ _ k))
 
 mul-wide : tie.Need-mul-wide
 mul-wide c = search needs
@@ -41,20 +33,12 @@ mark-of-requires c κs = search needs
 returns-3 : tie.Need-returns-3
 returns-3 c =
     let at-link-of = c .before .before .before .before .before .before in
-    let entry = at-link-of .before .before .before .before in
-    let links = treeOf (entry .args .lo .now) (entry .args .hi .now) (entry .args .up .now) in
-    child-none links (entry .args .right) (entry .args .slot) (at-link-of .link-of .result)
-    (at-link-of .link-of .ensures)
-    (λ k. c .if3 .taken (c .before .before .wide .ensures ∙ k .marked ∙ sym (c .before .mark-of .ensures)))
+    child-none _ _ _ _ (at-link-of .link-of .ensures) (λ k. c .if3 .taken (c .before .before .wide .ensures ∙ k .marked ∙ sym (c .before .mark-of .ensures)))
 
 returns-4 : tie.Need-returns-4
 returns-4 c =
     let at-link-of = c .before .before .before .before .before .before in
-    let entry = at-link-of .before .before .before .before in
-    let links = treeOf (entry .args .lo .now) (entry .args .hi .now) (entry .args .up .now) in
-    sym
-    (child-counts links (entry .args .right) (entry .args .slot) (at-link-of .link-of .result) record
-    { positive = omega arith; linked = sym (at-link-of .link-of .ensures); marked = sym (c .before .before .wide .ensures) ∙ c .if3 .left ∙ c .before .mark-of .ensures })
+    sym (child-counts _ _ _ _ record { positive = omega arith; linked = sym (at-link-of .link-of .ensures); marked = sym (c .before .before .wide .ensures) ∙ c .if3 .left ∙ c .before .mark-of .ensures })
 
 pub child-of-spec : {M : Type 1} → statement M
 child-of-spec =

@@ -5,13 +5,15 @@ use Rattle.memory.proofs.holds.Statement.{statement}
 use Rattle.memory.proofs.holds.Tie as tie
 
 returns : tie.Need-returns
-returns c = rw (hop-low (c .before .args .stored) (c .if1 .taken))
+returns c =
+    rw (hop-low _ (c .if1 .taken))
 
 add-result : tie.Need-add-result
 add-result c = search needs
 
 returns-2 : tie.Need-returns-2
-returns-2 c = hop-test (c .before .args .stored) (c .if1 .left)
+returns-2 c =
+    hop-test _ (c .if1 .left)
 
 pub holds-spec : {M : Type 1} → statement M
 holds-spec = tie.close (tie.spec returns add-result returns-2)

@@ -49,14 +49,7 @@ loop-less c = omega arith
 loop-again : tie.Need-loop-again Inv-loop μ-loop
 loop-again c =
     let turn = c .before .before .before .before in
-    let entry = turn .before .before .before .before in
-    let links = treeOf (entry .args .lo .now) (entry .args .hi .now) (entry .args .up .now) in
-    let bits = pathBit (entry .args .path) in (
-      omega arith,
-      c .if1 .left,
-      step-front links bits (turn .loop .depth) (turn .loop .inv .2)
-          (c .before .before .bit .ensures) (c .before .child-of .ensures),
-    )
+    let bits = pathBit _ in (omega arith, c .if1 .left, step-front _ bits _ (turn .loop .inv .2) (c .before .before .bit .ensures) (c .before .child-of .ensures))
 
 returns-2 : tie.Need-returns-2 Inv-loop μ-loop
 returns-2 c =
