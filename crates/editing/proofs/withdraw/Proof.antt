@@ -1,6 +1,8 @@
 -- The slot is looked for; where it holds a hop, that is set to none and what is bare now is freed.
 use mathlib.Core.Path.{sym, _∙_}
 use borrow.Author.Tests.{not-true, not-false}
+use Rattle.memory.specs.Path.{pathBit}
+use Rattle.memory.specs.Layout.{memoryOf}
 use Rattle.editing.proofs.Ending.{withdraw-no-slot, withdraw-no-hop, unheld-on, withdraw-taken}
 use borrow.Author.Needs.{needs}
 use Rattle.editing.proofs.withdraw.Statement.{statement}
@@ -58,7 +60,10 @@ prune-requires c κs =
     let at-if1 = c .before .before .before .before .before .before .before in
     let at-seek = at-if1 .before in
     let entry = at-seek .before .before .before .before .before .before .before .before in
-    unheld-on _ _ _ _ _ (entry .pre) (at-seek .seek .ensures) (at-if1 .if1 .left)
+    let lent = memoryOf (entry .args .lo .now) (entry .args .hi .now) (entry .args .up .now) (entry .args .hop .now) in
+    let bits = pathBit (entry .args .path) in
+    unheld-on (entry .args .width) lent bits (entry .args .size) (at-seek .seek .result) (entry .pre)
+    (at-seek .seek .ensures) (at-if1 .if1 .left)
 
 same-length-7 : tie.Need-same-length-7
 same-length-7 c = search needs
