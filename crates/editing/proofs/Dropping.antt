@@ -15,7 +15,7 @@ use Rattle.memory.proofs.Chain.{chain-freed}
 use Rattle.memory.proofs.Bare.{bare-hop, bare-leaf}
 use Rattle.editing.specs.Edits.{Dropped}
 use Rattle.editing.proofs.Moving.{side-or, child-same, stays, comes, goes, Edit, moved, ledger-kept}
-use Rattle.editing.proofs.Hanging.{string-not-free, busy-kept, marked-before}
+use Rattle.editing.proofs.Hanging.{string-not-free, busy-kept, marked-before, plain-kept}
 
 module _ (w : ℕ) (m m' : Memory) (p : ℕ) (b : Bool) (k : ℕ) (s0 : Bits) (whole : Whole m) (dropped : Dropped m m' p b k)
     (above : find (m .tree) s0 ≡ p) (there : find (m .tree) (b ∷ s0) ≡ k) (slot-k : k < slots (m .tree)) (short : length (b ∷ s0) ≤ w)
@@ -155,11 +155,7 @@ module _ (w : ℕ) (m m' : Memory) (p : ℕ) (b : Bool) (k : ℕ) (s0 : Bits) (w
     dropped-tidy = record {
       each-slot = dropped-slot;
       neat = dropped-neat;
-      plain = λ j e.
-          elim (same-or j k) [
-            | inl at-k ↦ ap (λ x. getD (m' .hop) x 0) at-k ∙ dropped .no-hop
-            | inr not-k ↦ dropped .other-hops j not-k ∙ tidy .plain j (ap readHop (sym (dropped .other-hops j not-k)) ∙ e)
-          ];
+      plain = plain-kept m m' k (dropped .no-hop) (dropped .other-hops) (tidy .plain);
       chained = dropped-chained;
     }
 

@@ -3,6 +3,7 @@ use mathlib.Core.Path.{_≡_, refl, sym, ap, ap₂, subst, _∙_}
 use mathlib.Core.Logic.{_⊎_, inl, inr, ⊎-map}
 use mathlib.Core.Bool.{Bool, true, false}
 use mathlib.Core.List.{[], _∷_}
+use mathlib.Core.Option.{none}
 use Prim.Native.Nat.{ℕ, _-_, _≤_, _<_}
 use native.Mathlib.Omega.{arith}
 use lib.ListN.{length, getD}
@@ -61,6 +62,15 @@ busy-kept m m' left k same-slots same-hop same-child busy =
       | inr leads ↦
           busy-child m' left k (leads .side) (leads .bits-left)
           (omega (arith, same-child (leads .side) (leads .leads), same-slots, leads .leads))
+    ]
+
+-- a hop that stands for none is 0 still, where only slot k's has changed, to 0
+pub plain-kept : (m m' : Memory) (k : ℕ) → getD (m' .hop) k 0 ≡ 0 → ((x : ℕ) → (x ≡ k → ⊥) → getD (m' .hop) x 0 ≡ getD (m .hop) x 0)
+    → ((j : ℕ) → hopAt m j ≡ none → getD (m .hop) j 0 ≡ 0) → (j : ℕ) → hopAt m' j ≡ none → getD (m' .hop) j 0 ≡ 0
+plain-kept m m' k no-hop other-hops plain j e =
+    elim (same-or j k) [
+      | inl at-k ↦ ap (λ x. getD (m' .hop) x 0) at-k ∙ no-hop
+      | inr not-k ↦ other-hops j not-k ∙ plain j (ap readHop (sym (other-hops j not-k)) ∙ e)
     ]
 
 -- a slot other than k that is in use after an edit of slot k was in use before
@@ -240,10 +250,6 @@ module _ (w : ℕ) (m m' : Memory) (p : ℕ) (b : Bool) (k : ℕ) (s0 : Bits) (w
     hung-tidy = record {
       each-slot = hung-slot;
       neat = hung-neat;
-      plain = λ j e.
-          elim (same-or j k) [
-            | inl at-k ↦ ap (λ x. getD (m' .hop) x 0) at-k ∙ hung .no-hop
-            | inr not-k ↦ hung .other-hops j not-k ∙ tidy .plain j (ap readHop (sym (hung .other-hops j not-k)) ∙ e)
-          ];
+      plain = plain-kept m m' k (hung .no-hop) (hung .other-hops) (tidy .plain);
       chained = hung-chained;
     }

@@ -13,6 +13,14 @@ abbrev pub headAfter : ℕ → ℕ → ℕ → ℕ → ℕ
 headAfter head slot next count =
     cond (eqb (firstFree head) slot) (cond (ltb (nextFree next slot) count) (nextFree next slot) count) head
 
+-- what both ask: slices that make a memory, and two slots in it, of which the edited one is not the first
+pub record CanEdit (m : Memory) (parent slot : ℕ) : Type 0 where
+  pub whole : Whole m
+  pub parent-below : parent < slots (m .tree)
+  pub positive : 0 < slot
+  pub below : slot < slots (m .tree)
+  pub other : slot ≡ parent → ⊥
+
 -- what both keep: the number of slots, and that the memory holds a ledger
 pub record Kept (m m' : Memory) : Type 0 where
   pub same-slots : slots (m' .tree) ≡ slots (m .tree)

@@ -1,5 +1,5 @@
 // Changing lent memory: a route is set or removed, and what it no longer needs is freed. Any memory will do; in memory made from
-// zeros by these functions each costs by the path's length alone, as the chain of free slots then has what it says.
+// zeros by these functions each costs by the path's length alone until it is full, as the chain has every free slot.
 ghost use mathlib.Core.Path.{_≡_};
 ghost use mathlib.Core.Bool.{true, false};
 ghost use Prim.Native.Nat.{_+_, _-_, _<_, _≤_};
@@ -9,7 +9,7 @@ ghost use Rattle.memory.specs.Path.{pathBit, pathBits};
 ghost use Rattle.memory.specs.Layout.{treeOf, memoryOf, layoutSlots, Shaped, Whole};
 ghost use Rattle.memory.specs.Tidy.{bare, firstFree, nextFree};
 ghost use Rattle.editing.specs.Spare.{rises, idle, SpareFor};
-ghost use Rattle.editing.specs.Edits.{LinkSet, headAfter, Hung, Dropped};
+ghost use Rattle.editing.specs.Edits.{CanEdit, LinkSet, headAfter, Hung, Dropped};
 ghost use Rattle.editing.specs.Routes.{CanWithdraw, CanAnnounce, OnPath, Reworked, Step, Announced, Withdrawn};
 use memory::Path;
 
@@ -148,7 +148,7 @@ fn hang(
     right: bool,
     slot: usize,
 )
-    requires { ⌜ Whole (memoryOf (now lo) (now hi) (now up) (now hop)) × (parent < length (now up)) × (0 < slot) × (slot < length (now up)) × (slot ≡ parent → ⊥) ⌝ }
+    requires { ⌜ CanEdit (memoryOf (now lo) (now hi) (now up) (now hop)) parent slot ⌝ }
     ensures { λ _. ⌜ Hung (memoryOf (now (lo .entry)) (now (hi .entry)) (now (up .entry)) (now (hop .entry))) (memoryOf (now (lo .exit)) (now (hi .exit)) (now (up .exit)) (now (hop .exit))) parent right slot ⌝ }
 {
     up[0] = head_after(up[0], slot, lo[slot], lo.len());
@@ -169,7 +169,7 @@ fn drop_slot(
     right: bool,
     slot: usize,
 )
-    requires { ⌜ Whole (memoryOf (now lo) (now hi) (now up) (now hop)) × (parent < length (now up)) × (0 < slot) × (slot < length (now up)) × (slot ≡ parent → ⊥) ⌝ }
+    requires { ⌜ CanEdit (memoryOf (now lo) (now hi) (now up) (now hop)) parent slot ⌝ }
     ensures { λ _. ⌜ Dropped (memoryOf (now (lo .entry)) (now (hi .entry)) (now (up .entry)) (now (hop .entry))) (memoryOf (now (lo .exit)) (now (hi .exit)) (now (up .exit)) (now (hop .exit))) parent right slot ⌝ }
 {
     let behind = first_free(up[0]) as u32;

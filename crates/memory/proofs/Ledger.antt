@@ -1,7 +1,7 @@
 -- The ledger that a memory holds, read along a path: a prefix's slot has its hop, and longest match is what the walk has in force.
 use mathlib.Core.Path.{_≡_, sym, ap, ap₂, _∙_}
 use mathlib.Core.Logic.{inl, inr}
-use mathlib.Core.Bool.{Bool}
+use mathlib.Core.Bool.{Bool, true}
 use mathlib.Core.List.{[], reverse, reverse-reverse}
 use mathlib.Core.Option.{none, some}
 use Prim.Native.Nat.{ℕ, zero, suc, _+_, _-_, _≤_, _<_}
@@ -12,11 +12,11 @@ use lib.ListN.{length, List·getD-eq-default}
 use borrow.Author.Tests.{le-leb, lt-leb, le-ltb, lt-ltb, leb-true, leb-false}
 use Rattle.theory.specs.Bits.{Bits, front, prefixOf}
 use Rattle.theory.specs.Ledger.{isHeld, orElse, longest}
-use Rattle.theory.proofs.Hops.{by-test}
+use Rattle.theory.proofs.Hops.{by-test, never}
 use Rattle.theory.proofs.Walk.{best, prefix-length, longest-walk}
 use Rattle.rules.specs.Numbers.{lowestHop, highestHop}
 use Rattle.memory.specs.Layout.{Memory, slots, Whole, find, readHop, hopAt, ledgerOf}
-use Rattle.memory.proofs.Find.{same-or, none-deeper, find-le}
+use Rattle.memory.proofs.Find.{same-or, below-or, none-deeper, find-le}
 
 -- What a stored number stands for.
 pub hop-low : (v : ℕ) → v ≤ lowestHop → readHop v ≡ none
@@ -36,6 +36,18 @@ hop-test v l =
     elim (by-test (leb v (suc highestHop))) [
       | inl e ↦ rw (e, hop-stored v l (leb-true v (suc highestHop) e))
       | inr e ↦ rw (e, hop-high v (leb-false v (suc highestHop) e))
+    ]
+
+-- a number that stands for a hop is not 0, and the hop is 1 less
+pub held-stored : (v : ℕ) → isHeld (readHop v) ≡ true → (0 < v) × (readHop v ≡ some (v - 1))
+held-stored v h =
+    elim (below-or lowestHop v) [
+      | inr low ↦ never h (ap isHeld (hop-low v low))
+      | inl low ↦
+          elim (below-or (suc highestHop) v) [
+            | inl high ↦ never h (ap isHeld (hop-high v high))
+            | inr high ↦ (omega arith, hop-stored v low high)
+          ]
     ]
 
 module _ (w : ℕ) (m : Memory) where

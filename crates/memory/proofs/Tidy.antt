@@ -5,34 +5,25 @@ use mathlib.Core.Logic.{inl, inr}
 use mathlib.Core.Bool.{Bool, true, false}
 use mathlib.Core.List.{[], _∷_, reverse, reverse-reverse}
 use mathlib.Core.Option.{Option, none, some}
-use Prim.Native.Nat.{ℕ, suc, _+_, _-_, _≤_, _<_}
+use Prim.Native.Nat.{ℕ, _+_, _-_, _≤_, _<_}
 use native.Mathlib.Omega.{arith}
 use lib.ListN.{length, getD, length-reverse}
 use Rattle.theory.specs.Bits.{Bits}
 use Rattle.theory.specs.Ledger.{isHeld}
-use Rattle.theory.proofs.Longest.{none-some}
-use Rattle.rules.specs.Numbers.{lowestHop, highestHop}
 use Rattle.rules.specs.Plain.{beginsHeld}
 use Rattle.memory.specs.Layout.{Memory, slots, Whole, find, readHop, hopAt, ledgerOf}
 use Rattle.memory.specs.Tidy.{bare, Used, Tidy, SameButSlots}
 use Rattle.memory.proofs.Find.{below-or, mark-positive, counts-of, find-le, child-not-first, one-string}
-use Rattle.memory.proofs.Ledger.{hop-low, hop-high, hop-stored, ledger-at}
+use Rattle.memory.proofs.Ledger.{held-stored, ledger-at}
 use Rattle.memory.proofs.Room.{begins-slot, live}
 
 -- a number that stands for a hop is that hop and 1
-pub stored-hop : (v h : ℕ) → readHop v ≡ some h → v ≡ h + 1
+stored-hop : (v h : ℕ) → readHop v ≡ some h → v ≡ h + 1
 stored-hop v h e =
-    elim (below-or lowestHop v) [
-      | inr low ↦ none-some e (hop-low v low)
-      | inl low ↦
-          elim (below-or (suc highestHop) v) [
-            | inl high ↦ none-some e (hop-high v high)
-            | inr high ↦
-                let same-hop : some (v - 1) ≡ some h = sym (hop-stored v low high) ∙ e in
-                let taken-off : v - 1 ≡ h = cc in
-                omega arith
-          ]
-    ]
+    let held = held-stored v (ap isHeld e) in
+    let same-hop : some (v - 1) ≡ some h = sym (held .1) ∙ e in
+    let taken-off : v - 1 ≡ h = cc in
+    omega (arith, held .0)
 
 module _ (w : ℕ) (m : Memory) (whole : Whole m) (tidy : Tidy w m) where
   -- the slot of a string in use is that of no other and is busy

@@ -105,13 +105,10 @@ pub fn holds(stored: u32) -> bool
 fn hop_or(stored: u32, above: u32) -> u32
     ensures { λ r. ⌜ r ≡ orElse (readHop stored) above ⌝ }
 {
-    if stored <= LOWEST_HOP {
-        return above;
+    if holds(stored) {
+        return stored - 1;
     }
-    if stored > HIGHEST_HOP + 1 {
-        return above;
-    }
-    stored - 1
+    above
 }
 
 // Longest match for an address of `width` bits: its hop, or 0 for no route.

@@ -74,7 +74,7 @@ returns c =
     let at-set-link = c .before .before .before .before in
     let at-first-free = at-set-link .before .before .before in
     let entry = at-first-free .before .before .before .before .before .before in
-    stores-drop _ _ _ _ _ _ _ _ _ 0 0 (at-set-link .set-link .last .0) (at-set-link .set-link .last .1 .0) (entry .pre .0) (entry .pre .1) (entry .pre .2) (entry .pre .3) (entry .pre .4) (at-set-link .set-link .ensures) (λ h. omega (arith, entry .pre .3)) refl refl refl (at-first-free .first-free .ensures .0)
+    stores-drop _ _ _ _ _ _ _ _ _ 0 0 (at-set-link .set-link .last .0) (at-set-link .set-link .last .1 .0) (entry .pre .whole) (entry .pre .parent-below) (entry .pre .positive) (entry .pre .below) (entry .pre .other) (at-set-link .set-link .ensures) (λ h. omega (arith, entry .pre .below)) refl refl refl (at-first-free .first-free .ensures .0)
 
 pub drop-slot-spec : {M : Type 1} → statement M
 drop-slot-spec =

@@ -57,7 +57,8 @@ hang-requires c κs =
     let at-child-of = at-if1 .before in
     let at-bit = at-child-of .before .before .before .before in
     let entry = at-bit .before .before .before .before .before in
-    let free = step-free _ _ _ _ _ (entry .pre .0) (entry .pre .1) _ _ (at-bit .bit .ensures) (at-child-of .child-of .ensures) (at-if1 .if1 .left) _ (at-spare .spare .ensures) (at-if2 .if2 .left) in (entry .pre .0 .route .whole, entry .pre .0 .below, free .positive, free .slot, free .other)
+    let free = step-free _ _ _ _ _ (entry .pre .0) (entry .pre .1) _ _ (at-bit .bit .ensures) (at-child-of .child-of .ensures) (at-if1 .if1 .left) _ (at-spare .spare .ensures) (at-if2 .if2 .left) in
+    record { whole = entry .pre .0 .route .whole; parent-below = entry .pre .0 .below; positive = free .positive; below = free .slot; other = free .other }
 
 same-length-8 : tie.Need-same-length-8
 same-length-8 c = search needs

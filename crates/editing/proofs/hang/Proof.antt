@@ -34,8 +34,8 @@ cast-up c =
       arith,
       c .mark-of .ensures,
       mark-bound (entry .args .parent) (entry .args .right),
-      entry .pre .1,
-      entry .pre .0 .shaped .few,
+      entry .pre .parent-below,
+      entry .pre .whole .shaped .few,
     )
 
 mul-up : tie.Need-mul-up
@@ -97,11 +97,11 @@ returns c =
     at-head-after .head-after .ensures ∙ ap
     (headAfter (getD (entry .args .up .now) 0 0) (entry .args .slot)
     (getD (entry .args .lo .now) (entry .args .slot) 0))
-    (entry .pre .0 .shaped .los) in stores-hang (entry .args .lo .now) (entry .args .hi .now) (entry .args .up .now)
+    (entry .pre .whole .shaped .los) in stores-hang (entry .args .lo .now) (entry .args .hi .now) (entry .args .up .now)
     (entry .args .hop .now) (entry .args .parent) (entry .args .right) (entry .args .slot) 0
     (at-head-after .head-after .result) (at-mark-of .mark-of .result) (entry .args .slot)
-    (at-set-link .set-link .last .0) (at-set-link .set-link .last .1 .0) (entry .pre .0) (entry .pre .1)
-    (entry .pre .2) (entry .pre .3) (entry .pre .4) (at-set-link .set-link .ensures)
+    (at-set-link .set-link .last .0) (at-set-link .set-link .last .1 .0) (entry .pre .whole) (entry .pre .parent-below)
+    (entry .pre .positive) (entry .pre .below) (entry .pre .other) (at-set-link .set-link .ensures)
     (λ h. omega (
       arith,
       onwards,

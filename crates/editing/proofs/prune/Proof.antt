@@ -81,7 +81,8 @@ drop-slot-requires c κs =
     let at-wide = c .before .before .before .before .before in
     let at-loop-test = at-wide .before .before .before .before .before .before .before .before in
     let turn = at-loop-test .before in
-    let up-there = (above _ _ _ _ _ _ (turn .loop .inv .1) (at-loop-test .loop-test .taken) (at-wide .wide .ensures)) in (turn .loop .inv .1 .route .whole, up-there .below, up-there .positive, turn .loop .inv .1 .below, up-there .other)
+    let up-there = (above _ _ _ _ _ _ (turn .loop .inv .1) (at-loop-test .loop-test .taken) (at-wide .wide .ensures)) in
+    record { whole = turn .loop .inv .1 .route .whole; parent-below = up-there .below; positive = up-there .positive; below = turn .loop .inv .1 .below; other = up-there .other }
 
 loop-less : tie.Need-loop-less Inv-loop μ-loop
 loop-less c = omega arith

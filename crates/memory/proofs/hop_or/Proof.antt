@@ -1,31 +1,24 @@
--- The two tests are those of the reading of a stored number.
-use Rattle.memory.proofs.Ledger.{hop-low, hop-high, hop-stored}
+-- Where the number stands for a hop it is that and 1; else what is above stays in force.
+use mathlib.Core.Path.{sym, _∙_}
+use native.Mathlib.Omega.{arith}
+use Rattle.memory.specs.Layout.{readHop}
+use Rattle.memory.proofs.Ledger.{held-stored}
+use Rattle.memory.proofs.Bare.{none-of-test}
 use borrow.Author.Needs.{needs}
 use Rattle.memory.proofs.hop_or.Statement.{statement}
 use Rattle.memory.proofs.hop_or.Tie as tie
 
--- src/lib.rt:92:9
-returns : tie.Need-returns
-returns c =
-    rw (hop-low _ (c .if1 .taken))
+holds-requires : tie.Need-holds-requires
+holds-requires c κs = search needs
 
--- src/lib.rt:94:17
-add-if2 : tie.Need-add-if2
-add-if2 c = search needs
-
--- src/lib.rt:95:9
-returns-2 : tie.Need-returns-2
-returns-2 c =
-    rw (hop-high _ (c .if2 .taken))
-
--- src/lib.rt:97:5
 sub-result : tie.Need-sub-result
-sub-result c = search needs
+sub-result c = omega (arith, held-stored (c .before .before .args .stored) (sym (c .before .holds .ensures) ∙ c .if1 .taken) .0)
 
--- src/lib.rt:88:1
-returns-3 : tie.Need-returns-3
-returns-3 c =
-    rw (hop-stored _ (c .before .if1 .left) (c .if2 .left))
+returns : tie.Need-returns
+returns c = rw (held-stored (c .before .before .args .stored) (sym (c .before .holds .ensures) ∙ c .if1 .taken) .1)
+
+returns-2 : tie.Need-returns-2
+returns-2 c = rw (none-of-test (readHop (c .before .before .args .stored)) (sym (c .before .holds .ensures) ∙ c .if1 .left))
 
 pub hop-or-spec : {M : Type 1} → statement M
-hop-or-spec = tie.close (tie.spec returns add-if2 returns-2 sub-result returns-3)
+hop-or-spec = tie.close (tie.spec holds-requires sub-result returns returns-2)
