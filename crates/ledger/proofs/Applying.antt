@@ -23,7 +23,7 @@ use Rattle.editing.specs.Edits.{Kept}
 use Rattle.editing.specs.Routes.{CanAnnounce, CanWithdraw, Announced, Withdrawn}
 use Rattle.editing.proofs.Walking.{kept-self}
 use Rattle.ledger.specs.Steps.{IsPathOf, AppliesOne}
-use Rattle.ledger.proofs.Faults.{path-prefix}
+use Rattle.ledger.proofs.Paths.{path-prefix}
 
 abbrev w : ℕ
 w = width ipv4

@@ -22,9 +22,11 @@ use Rattle.editing.specs.Edits.{Kept}
 use Rattle.editing.proofs.Walking.{kept-self, kept-then, kept-lo, kept-hi, kept-hop}
 use Rattle.lists.specs.declared.Found.the-variants as found
 use Rattle.ledger.specs.declared.Updated.the-variants.{Complete, Refused}
-use Rattle.ledger.specs.Promise.{lentFault, updateOf, reported, SameLengths, Updates, foundAfter, LooksUp}
-use Rattle.ledger.specs.Steps.{IsPathOf, FaultOf, AppliesOne}
-use Rattle.ledger.proofs.Faults.{GoodLent, of-good, let-through, holds-of, path-prefix}
+use Rattle.lent.specs.Lent.{lentFault, FaultOf}
+use Rattle.ledger.specs.Promise.{updateOf, reported, SameLengths, Updates, foundAfter, LooksUp}
+use Rattle.ledger.specs.Steps.{IsPathOf, AppliesOne}
+use Rattle.lent.proofs.Faults.{GoodLent, of-good, let-through, holds-of}
+use Rattle.ledger.proofs.Paths.{path-prefix}
 
 abbrev w : ℕ
 w = width ipv4

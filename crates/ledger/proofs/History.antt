@@ -12,9 +12,10 @@ use Rattle.memory.specs.Tidy.{headOf}
 use Rattle.memory.proofs.Chain.{chained-head}
 use Rattle.memory.proofs.Zeros.{zeroed-ledger, zeroed-slots, zeroed-whole, zeroed-tidy, zeroed-head}
 use Rattle.ledger.specs.declared.Updated.{Updated}
-use Rattle.ledger.specs.Promise.{lentFault, afterFault, updateOf, Updates}
+use Rattle.lent.specs.Lent.{lentFault}
+use Rattle.ledger.specs.Promise.{afterFault, updateOf, Updates}
 use Rattle.ledger.specs.History.{ReachedMemory, at-zeros, by-update, Sound}
-use Rattle.ledger.proofs.Faults.{no-fault}
+use Rattle.lent.proofs.Faults.{no-fault}
 
 -- what is left where the call is let through
 pub ledger-after : (m m' : Memory) (list : List ℕ) (r : Updated) → Updates m list m' r → lentFault m ≡ none

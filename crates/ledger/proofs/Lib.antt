@@ -1,4 +1,4 @@
-pub mod Faults
+pub mod Paths
 pub mod Applying
 pub mod Batch
 pub mod Promise

@@ -19,8 +19,9 @@ use Rattle.lists.specs.declared.Found.{Found}
 use Rattle.lists.proofs.Promise.{same-answer}
 use Rattle.ledger.specs.declared.Updated.{Updated}
 use Rattle.ledger.specs.declared.Updated.the-variants.{Complete, Refused}
-use Rattle.ledger.specs.Promise.{badLent, lentFault, afterFault, updateOf, reportOf, reported, Updates, LooksUp}
-use Rattle.ledger.proofs.Faults.{let-through, whole-of}
+use Rattle.lent.specs.Lent.{badLent, lentFault}
+use Rattle.ledger.specs.Promise.{afterFault, updateOf, reportOf, reported, Updates, LooksUp}
+use Rattle.lent.proofs.Faults.{let-through, whole-of}
 
 -- UPDATE
 same-report : (r s : Updated) → reportOf r ≡ reportOf s → r ≡ s

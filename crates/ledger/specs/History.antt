@@ -9,7 +9,8 @@ use Rattle.rules.specs.Plain.{Reached}
 use Rattle.memory.specs.Layout.{Memory, slots, ledgerOf, zeroed}
 use Rattle.memory.specs.Tidy.{Tidy}
 use Rattle.ledger.specs.declared.Updated.{Updated}
-use Rattle.ledger.specs.Promise.{lentFault, Updates}
+use Rattle.lent.specs.Lent.{lentFault}
+use Rattle.ledger.specs.Promise.{Updates}
 
 pub data ReachedMemory (n : ℕ) : Memory → Type 0 where
   at-zeros : ReachedMemory n (zeroed n)

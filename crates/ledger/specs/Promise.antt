@@ -1,34 +1,21 @@
 -- WHAT THE CALLS PROMISE: update and lookup on lent slices, whatever they hold. Memory is read by the layout of
 -- memory/specs/Layout, and w is the address's width.
 use mathlib.Core.Path.{_≡_}
-use mathlib.Core.Bool.{Bool, true, false, not, _&&_, _||_}
-use mathlib.Core.List.{List, [], _∷_}
+use mathlib.Core.Bool.{Bool, true, false}
+use mathlib.Core.List.{List}
 use mathlib.Core.Option.{Option, none, some}
 use Prim.Native.Nat.{ℕ}
-use lib.Dec.{eqb, ltb}
 use lib.ListN.{length}
-use Rattle.rules.specs.Numbers.{ipv4, width, mostSlots, badSlices, noLedger, noSlots}
-use Rattle.rules.specs.Records.{_refusedBy_, firstFault}
+use Rattle.rules.specs.Numbers.{ipv4, width, noSlots}
 use Rattle.rules.specs.Plain.{Applied, complete, updated}
 use Rattle.rules.specs.Lookup.{Answer, hopOf}
-use Rattle.memory.specs.Layout.{Memory, slots, ledgerOf, holdsLedger}
+use Rattle.memory.specs.Layout.{Memory, slots, ledgerOf}
 use Rattle.memory.specs.Tidy.{Tidy}
+use Rattle.lent.specs.Lent.{lentFault}
 use Rattle.lists.specs.declared.Found.{Found}
 use Rattle.lists.specs.Promise.{answerOf}
 use Rattle.ledger.specs.declared.Updated.{Updated}
 use Rattle.ledger.specs.declared.Updated.the-variants.{Complete, Refused}
-
--- THE WHOLE CALL'S RULES. 1: the slices differ in length, or have no slot or too many. 2: they hold no ledger.
-abbrev pub sameLengths : Memory → Bool
-sameLengths m =
-    eqb (length (m .tree .lo)) (slots (m .tree))
-    && (eqb (length (m .tree .hi)) (slots (m .tree)) && eqb (length (m .hop)) (slots (m .tree)))
-
-abbrev pub badLent : Memory → Bool
-badLent m = not (sameLengths m) || (eqb (slots (m .tree)) 0 || ltb mostSlots (slots (m .tree)))
-
-unfoldable pub lentFault : Memory → Option ℕ
-lentFault m = firstFault (badLent m refusedBy badSlices ∷ not (holdsLedger (m .tree)) refusedBy noLedger ∷ [])
 
 -- UPDATE, as a function of what is lent: the refusal, the count of records applied, and the ledger after those
 abbrev pub afterFault : Option ℕ → Memory → List ℕ → Applied

@@ -1,6 +1,5 @@
 -- The contracts of the steps that the calls are made of.
 use mathlib.Core.Path.{_≡_}
-use mathlib.Core.Option.{none, some}
 use Prim.Native.Nat.{ℕ, _-_, _/_, _%_, _^_, _<_}
 use lib.Dec.{eqb}
 use Rattle.rules.specs.Numbers.{ipv4, width, noSlots}
@@ -8,19 +7,13 @@ use Rattle.rules.specs.Records.{Reading}
 use Rattle.rules.specs.Plain.{taken, refused, apply}
 use Rattle.memory.specs.Path.{pathBit}
 use Rattle.memory.specs.declared.Path.{Path}
-use Rattle.memory.specs.Layout.{Memory, slots, Whole, ledgerOf}
+use Rattle.memory.specs.Layout.{Memory, slots, ledgerOf}
 use Rattle.memory.specs.Tidy.{Tidy}
 use Rattle.editing.specs.Edits.{Kept}
-use Rattle.ledger.specs.Promise.{lentFault}
 
 -- a path whose first bits are an address's
 pub record IsPathOf (address : ℕ) (path : Path) : Type 0 where
   pub bit-by-bit : (i : ℕ) → i < width ipv4 → pathBit path i ≡ eqb (address / 2 ^ (width ipv4 - 1 - i) % 2) 1
-
--- the number of the whole call's refusal, 0 for none
-pub record FaultOf (m : Memory) (r : ℕ) : Type 0 where
-  pub fine : r ≡ 0 → (lentFault m ≡ none) × Whole m
-  pub faulty : (r ≡ 0 → ⊥) → lentFault m ≡ some r
 
 -- one record applied: 0 where it was taken, else the number of its refusal
 pub record AppliesOne (m m' : Memory) (r : Reading) (number : ℕ) : Type 0 where

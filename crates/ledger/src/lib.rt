@@ -7,14 +7,11 @@ ghost use Rattle.rules.specs.Records.{read, update};
 ghost use Rattle.memory.specs.Layout.{memoryOf, Whole};
 ghost use Rattle.records.specs.Promise.{CanRead};
 ghost use Rattle.ledger.specs.Promise.{Updates, LooksUp};
-ghost use Rattle.ledger.specs.Steps.{IsPathOf, FaultOf, AppliesOne};
+ghost use Rattle.ledger.specs.Steps.{IsPathOf, AppliesOne};
 use lists::Found;
 use memory::Path;
 use numbers::BAD_LIST_LENGTH;
-use numbers::BAD_SLICES;
 use numbers::LENGTHS;
-use numbers::MOST_SLOTS;
-use numbers::NO_LEDGER;
 use numbers::NO_SLOTS;
 use numbers::NOT_HELD;
 use numbers::RECORD;
@@ -35,32 +32,6 @@ fn path_of(address: u32) -> Path
         high: (address as u64) * 4294967296,
         low: 0,
     }
-}
-
-// The rules 1 and 2 for the whole call, in order: the first one's number, or 0.
-fn lent_fault(lo: &[u32], hi: &[u32], up: &[u32], hop: &[u32]) -> u32
-    ensures { λ r. ⌜ FaultOf (memoryOf (now (lo .entry)) (now (hi .entry)) (now (up .entry)) (now (hop .entry))) r ⌝ }
-{
-    let count = up.len();
-    if lo.len() != count {
-        return BAD_SLICES;
-    }
-    if hi.len() != count {
-        return BAD_SLICES;
-    }
-    if hop.len() != count {
-        return BAD_SLICES;
-    }
-    if count == 0 {
-        return BAD_SLICES;
-    }
-    if MOST_SLOTS < count {
-        return BAD_SLICES;
-    }
-    if memory::wide(up[0]) > count {
-        return NO_LEDGER;
-    }
-    0
 }
 
 // The record at `at` is read and applied: 0, or the number of its refusal.
@@ -108,7 +79,7 @@ pub fn update(
 ) -> Updated
     ensures { λ r. ⌜ Updates (memoryOf (now (lo .entry)) (now (hi .entry)) (now (up .entry)) (now (hop .entry))) (now (list .entry)) (memoryOf (now (lo .exit)) (now (hi .exit)) (now (up .exit)) (now (hop .exit))) r ⌝ }
 {
-    let fault = lent_fault(lo, hi, up, hop);
+    let fault = lent::fault(lo, hi, up, hop);
     if fault != 0 {
         return Updated::Refused {
             number: fault,
@@ -139,7 +110,7 @@ pub fn update(
 pub fn lookup(lo: &[u32], hi: &[u32], up: &[u32], hop: &[u32], address: u32) -> Found
     ensures { λ r. ⌜ LooksUp (memoryOf (now (lo .entry)) (now (hi .entry)) (now (up .entry)) (now (hop .entry))) address r ⌝ }
 {
-    let fault = lent_fault(lo, hi, up, hop);
+    let fault = lent::fault(lo, hi, up, hop);
     if fault != 0 {
         return Found::Refused {
             number: fault,

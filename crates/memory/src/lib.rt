@@ -102,7 +102,7 @@ pub fn holds(stored: u32) -> bool
 }
 
 // The hop that a slot's number stands for, or else the one in force above.
-fn hop_or(stored: u32, above: u32) -> u32
+pub fn hop_or(stored: u32, above: u32) -> u32
     ensures { λ r. ⌜ r ≡ orElse (readHop stored) above ⌝ }
 {
     if holds(stored) {

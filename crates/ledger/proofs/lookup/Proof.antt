@@ -5,25 +5,25 @@ use borrow.Author.Needs.{needs}
 use Rattle.ledger.proofs.lookup.Statement.{statement}
 use Rattle.ledger.proofs.lookup.Tie as tie
 
-lent-fault-requires : tie.Need-lent-fault-requires
-lent-fault-requires c κs = search needs
+fault-requires : tie.Need-fault-requires
+fault-requires c κs = search needs
 
 returns : tie.Need-returns
 returns c =
-    lookup-refused _ _ _ (c .before .lent-fault .ensures) (c .if1 .taken)
+    lookup-refused _ _ _ (c .before .fault .ensures) (c .if1 .taken)
 
 path-of-requires : tie.Need-path-of-requires
 path-of-requires c κs = search needs
 
 longest-match-requires : tie.Need-longest-match-requires
-longest-match-requires c κs = (c .before .before .lent-fault .ensures .fine (c .before .if1 .left) .1, omega arith)
+longest-match-requires c κs = (c .before .before .fault .ensures .fine (c .before .if1 .left) .1, omega arith)
 
 returns-2 : tie.Need-returns-2
 returns-2 c =
-    let at-lent-fault = c .before .before .before in
-    lookup-found _ _ _ (at-lent-fault .lent-fault .ensures) (c .before .before .if1 .left) _ (c .before .path-of .ensures) _ (c .longest-match .ensures)
+    let at-fault = c .before .before .before in
+    lookup-found _ _ _ (at-fault .fault .ensures) (c .before .before .if1 .left) _ (c .before .path-of .ensures) _ (c .longest-match .ensures)
 
 pub lookup-spec : {M : Type 1} → statement M
 lookup-spec =
     tie.close
-    (tie.spec lent-fault-requires returns path-of-requires longest-match-requires returns-2)
+    (tie.spec fault-requires returns path-of-requires longest-match-requires returns-2)

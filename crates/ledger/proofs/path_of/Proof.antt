@@ -1,5 +1,5 @@
 -- The address stands in the highest 32 bits.
-use Rattle.ledger.proofs.Faults.{path-bits}
+use Rattle.ledger.proofs.Paths.{path-bits}
 use borrow.Author.Needs.{needs}
 use Rattle.ledger.proofs.path_of.Statement.{statement}
 use Rattle.ledger.proofs.path_of.Tie as tie

@@ -14,8 +14,8 @@ Inv-loop lo₀ hi₀ up₀ hop₀ list fault masks at₀ count₀ lo hi up hop a
 abbrev μ-loop : tie.MeasureT-loop
 μ-loop lo₀ hi₀ up₀ hop₀ list fault masks at₀ count₀ lo hi up hop at count = length list - at
 
-lent-fault-requires : tie.Need-lent-fault-requires Inv-loop μ-loop
-lent-fault-requires c κs = search needs
+fault-requires : tie.Need-fault-requires Inv-loop μ-loop
+fault-requires c κs = search needs
 
 same-length : tie.Need-same-length Inv-loop μ-loop
 same-length c = search needs
@@ -31,7 +31,7 @@ same-length-4 c = search needs
 
 returns : tie.Need-returns Inv-loop μ-loop
 returns c =
-    refused-whole _ _ _ (c .before .lent-fault .ensures) (c .if1 .taken)
+    refused-whole _ _ _ (c .before .fault .ensures) (c .if1 .taken)
 
 same-length-5 : tie.Need-same-length-5 Inv-loop μ-loop
 same-length-5 c = search needs
@@ -47,16 +47,16 @@ same-length-8 c = search needs
 
 returns-2 : tie.Need-returns-2 Inv-loop μ-loop
 returns-2 c =
-    let at-lent-fault = c .before .before in
-    refused-list _ _ _ (at-lent-fault .lent-fault .ensures) (c .before .if1 .left) (c .if2 .taken)
+    let at-fault = c .before .before in
+    refused-list _ _ _ (at-fault .fault .ensures) (c .before .if1 .left) (c .if2 .taken)
 
 mask-table-requires : tie.Need-mask-table-requires Inv-loop μ-loop
 mask-table-requires c κs = search needs
 
 loop-holds : tie.Need-loop-holds Inv-loop μ-loop
 loop-holds c =
-    let at-lent-fault = c .before .before .before in
-    begin _ _ _ (at-lent-fault .lent-fault .ensures) (c .before .before .if1 .left) (c .before .if2 .left)
+    let at-fault = c .before .before .before in
+    begin _ _ _ (at-fault .fault .ensures) (c .before .before .if1 .left) (c .before .if2 .left)
 
 apply-record-requires : tie.Need-apply-record-requires Inv-loop μ-loop
 apply-record-requires c κs =
@@ -65,8 +65,8 @@ apply-record-requires c κs =
     let at-mask-table = turn .before in
     let at-if2 = at-mask-table .before in
     let at-if1 = at-if2 .before in
-    let at-lent-fault = at-if1 .before in
-    let held = memoryOf _ _ _ _ in (turn .loop .inv .kept .whole, record { whole = fits-here _ _ _ (at-lent-fault .lent-fault .ensures) (at-if1 .if1 .left) (at-if2 .if2 .left) held _ _ (turn .loop .inv) (at-loop-test .loop-test .taken); table = at-mask-table .mask-table .ensures })
+    let at-fault = at-if1 .before in
+    let held = memoryOf _ _ _ _ in (turn .loop .inv .kept .whole, record { whole = fits-here _ _ _ (at-fault .fault .ensures) (at-if1 .if1 .left) (at-if2 .if2 .left) held _ _ (turn .loop .inv) (at-loop-test .loop-test .taken); table = at-mask-table .mask-table .ensures })
 
 returns-3 : tie.Need-returns-3 Inv-loop μ-loop
 returns-3 c =
@@ -75,8 +75,8 @@ returns-3 c =
     let turn = at-loop-test .before in
     let at-if2 = turn .before .before in
     let at-if1 = at-if2 .before in
-    let at-lent-fault = at-if1 .before in
-    stopped _ _ _ (at-lent-fault .lent-fault .ensures) (at-if1 .if1 .left) (at-if2 .if2 .left) _ _ _ (turn .loop .inv) (at-loop-test .loop-test .taken) _ _ (at-apply-record .apply-record .ensures) (c .if3 .taken)
+    let at-fault = at-if1 .before in
+    stopped _ _ _ (at-fault .fault .ensures) (at-if1 .if1 .left) (at-if2 .if2 .left) _ _ _ (turn .loop .inv) (at-loop-test .loop-test .taken) _ _ (at-apply-record .apply-record .ensures) (c .if3 .taken)
 
 same-length-9 : tie.Need-same-length-9 Inv-loop μ-loop
 same-length-9 c = returns-3 c .same-lengths .los
@@ -96,9 +96,9 @@ add-at c =
     let turn = at-loop-test .before in
     let at-if2 = turn .before .before in
     let at-if1 = at-if2 .before in
-    let at-lent-fault = at-if1 .before in
-    let entry = at-lent-fault .before .before .before .before .before .before .before .before .before .before in
-    omega (arith, entry .good .1 .1 .1 .1 .0 .0, fits-here _ _ _ (at-lent-fault .lent-fault .ensures) (at-if1 .if1 .left) (at-if2 .if2 .left) _ _ (turn .loop .count) (turn .loop .inv) (at-loop-test .loop-test .taken))
+    let at-fault = at-if1 .before in
+    let entry = at-fault .before .before .before .before .before .before .before .before .before .before in
+    omega (arith, entry .good .1 .1 .1 .1 .0 .0, fits-here _ _ _ (at-fault .fault .ensures) (at-if1 .if1 .left) (at-if2 .if2 .left) _ _ (turn .loop .count) (turn .loop .inv) (at-loop-test .loop-test .taken))
 
 add-count : tie.Need-add-count Inv-loop μ-loop
 add-count c =
@@ -106,9 +106,9 @@ add-count c =
     let turn = at-loop-test .before in
     let at-if2 = turn .before .before in
     let at-if1 = at-if2 .before in
-    let at-lent-fault = at-if1 .before in
-    let entry = at-lent-fault .before .before .before .before .before .before .before .before .before .before in
-    omega (arith, entry .good .1 .1 .1 .1 .0 .0, count-fits _ _ _ (at-lent-fault .lent-fault .ensures) (at-if1 .if1 .left) (at-if2 .if2 .left) _ _ (turn .loop .count) (turn .loop .inv), at-loop-test .loop-test .taken)
+    let at-fault = at-if1 .before in
+    let entry = at-fault .before .before .before .before .before .before .before .before .before .before in
+    omega (arith, entry .good .1 .1 .1 .1 .0 .0, count-fits _ _ _ (at-fault .fault .ensures) (at-if1 .if1 .left) (at-if2 .if2 .left) _ _ (turn .loop .count) (turn .loop .inv), at-loop-test .loop-test .taken)
 
 loop-less : tie.Need-loop-less Inv-loop μ-loop
 loop-less c =
@@ -122,14 +122,14 @@ loop-again c =
     let turn = at-loop-test .before in
     let at-if2 = turn .before .before in
     let at-if1 = at-if2 .before in
-    let at-lent-fault = at-if1 .before in
-    go-on _ _ _ (at-lent-fault .lent-fault .ensures) (at-if1 .if1 .left) (at-if2 .if2 .left) _ _ _ (turn .loop .inv) (at-loop-test .loop-test .taken) _ _ (at-apply-record .apply-record .ensures) (c .if3 .left)
+    let at-fault = at-if1 .before in
+    go-on _ _ _ (at-fault .fault .ensures) (at-if1 .if1 .left) (at-if2 .if2 .left) _ _ _ (turn .loop .inv) (at-loop-test .loop-test .taken) _ _ (at-apply-record .apply-record .ensures) (c .if3 .left)
 
 returns-4 : tie.Need-returns-4 Inv-loop μ-loop
 returns-4 c =
     let at-if1 = c .before .before .before .before in
-    let at-lent-fault = at-if1 .before in
-    finished _ _ _ (at-lent-fault .lent-fault .ensures) (at-if1 .if1 .left) (c .before .before .before .if2 .left) _ _ _ (c .before .loop .inv) (c .loop-test .left)
+    let at-fault = at-if1 .before in
+    finished _ _ _ (at-fault .fault .ensures) (at-if1 .if1 .left) (c .before .before .before .if2 .left) _ _ _ (c .before .loop .inv) (c .loop-test .left)
 
 same-length-13 : tie.Need-same-length-13 Inv-loop μ-loop
 same-length-13 c = returns-4 c .same-lengths .los
@@ -149,7 +149,7 @@ update-spec =
     (tie.spec
     Inv-loop
     μ-loop
-    lent-fault-requires
+    fault-requires
     same-length
     same-length-2
     same-length-3

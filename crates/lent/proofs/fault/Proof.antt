@@ -1,9 +1,9 @@
 -- The tests are those of rule 1 one after another, and then that of rule 2.
 use native.Mathlib.Omega.{arith}
-use Rattle.ledger.proofs.Faults.{fault-slices, fault-ledger, no-fault}
+use Rattle.lent.proofs.Faults.{fault-slices, fault-ledger, no-fault}
 use borrow.Author.Needs.{needs}
-use Rattle.ledger.proofs.lent_fault.Statement.{statement}
-use Rattle.ledger.proofs.lent_fault.Tie as tie
+use Rattle.lent.proofs.fault.Statement.{statement}
+use Rattle.lent.proofs.fault.Tie as tie
 
 returns : tie.Need-returns
 returns c =
@@ -47,8 +47,8 @@ returns-7 c =
     let at-if1 = at-if2 .before in
     no-fault _ record { los = at-if1 .if1 .left; his = at-if2 .if2 .left; hops = at-if3 .if3 .left; some-slot = at-if4 .if4 .left; few = c .before .before .before .if5 .left } (omega (arith, c .if6 .left, c .before .wide .ensures))
 
-pub lent-fault-spec : {M : Type 1} → statement M
-lent-fault-spec =
+pub fault-spec : {M : Type 1} → statement M
+fault-spec =
     tie.close
     (tie.spec
     returns

@@ -1,27 +1,20 @@
--- The rules 1 and 2, as code tests them; and an address as a path.
-use mathlib.Core.Path.{_≡_, refl, ap, _∙_}
+-- The rules 1 and 2, as code tests them.
+use mathlib.Core.Path.{_≡_, refl}
 use mathlib.Core.Logic.{inl, inr}
 use mathlib.Core.Bool.{true, false, not, _&&_, _||_}
 use mathlib.Core.Option.{none, some}
-use Prim.Native.Nat.{ℕ, _+_, _-_, _*_, _/_, _%_, _^_, _≤_, _<_}
+use Prim.Native.Nat.{ℕ, _≤_, _<_}
 use native.Mathlib.Omega.{arith}
-use native.Mathlib.Nat.{mul-div-mul-right}
 use lib.Dec.{eqb, ltb}
-use lib.ListN.{length, getD, take}
-use lib.Pow.{pow-add}
-use borrow.Author.Tests.{eqb-true, eqb-false, ltb-false, eq-eqb, ne-eqb, lt-ltb, le-ltb, le-leb, lt-leb, not-false}
-use Rattle.theory.specs.Bits.{bitsOf, prefixOf}
+use lib.ListN.{length, getD}
+use borrow.Author.Tests.{eqb-true, eqb-false, ltb-false, eq-eqb, ne-eqb, le-ltb, le-leb, lt-leb, not-false}
 use Rattle.theory.proofs.Hops.{by-test, and-both}
 use Rattle.theory.proofs.Longest.{none-some}
-use Rattle.theory.proofs.Walk.{prefix-bits}
-use Rattle.rules.specs.Numbers.{ipv4, width, mostSlots, badSlices, noLedger}
+use Rattle.rules.specs.Numbers.{mostSlots, badSlices, noLedger}
 use Rattle.rules.proofs.Plain.{or-none}
-use Rattle.memory.specs.Path.{pathBit}
-use Rattle.memory.specs.declared.Path.{Path}
 use Rattle.memory.specs.Layout.{Memory, slots, Whole, holdsLedger}
 use Rattle.memory.proofs.Find.{not-none}
-use Rattle.ledger.specs.Promise.{sameLengths, badLent, lentFault}
-use Rattle.ledger.specs.Steps.{IsPathOf, FaultOf}
+use Rattle.lent.specs.Lent.{sameLengths, badLent, lentFault, FaultOf}
 
 -- slices that rule 1 lets through
 pub record GoodLent (m : Memory) : Type 0 where
@@ -97,20 +90,3 @@ holds-of m e =
       | inl h ↦ h
       | inr h ↦ let f : some noLedger ≡ none = rw (of-good m (let-through m e), h) at e in none-some refl f
     ]
-
--- AN ADDRESS AS A PATH: shifted to the path's front, its bits stand first
-pub path-bits : (x : ℕ) → IsPathOf x (record { high = x * 4294967296; low = 0 })
-unfolding pathBit
-path-bits x = record {
-  bit-by-bit = λ i l.
-      let apart : 63 - i ≡ (31 - i) + 32 = omega arith in
-      let shifted : x * 4294967296 / 2 ^ (63 - i) ≡ x / 2 ^ (31 - i) =
-      ap (λ e. x * 4294967296 / 2 ^ e) apart
-      ∙ ap (λ d. x * 4294967296 / d) (pow-add 2 (31 - i) 32)
-      ∙ mul-div-mul-right x (2 ^ (31 - i)) (omega arith) in
-      rw (lt-ltb i 64 (omega arith)) (ap (λ q. eqb (q % 2) 1) shifted);
-}
-
--- so a prefix of the path is a prefix of the address
-pub path-prefix : (x : ℕ) (p : Path) → IsPathOf x p → (size : ℕ) → size ≤ width ipv4 → prefixOf (pathBit p) size ≡ take size (bitsOf (width ipv4) x)
-path-prefix x p is size l = prefix-bits (width ipv4) x (pathBit p) (is .bit-by-bit) size l
