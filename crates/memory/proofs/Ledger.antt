@@ -1,4 +1,5 @@
--- The ledger that a memory holds, read along a path: a prefix's slot has its hop, and longest match is what the walk has in force.
+-- The ledger that a memory holds: it is within the record rules in any memory, a prefix's slot has its hop, and longest match
+-- is what a walk along a path has in force.
 use mathlib.Core.Path.{_≡_, sym, ap, ap₂, _∙_}
 use mathlib.Core.Logic.{inl, inr}
 use mathlib.Core.Bool.{Bool, true}
@@ -8,13 +9,15 @@ use Prim.Native.Nat.{ℕ, zero, suc, _+_, _-_, _≤_, _<_}
 use native.Mathlib.Omega.{arith}
 use native.Mathlib.Numerals.{add-one}
 use lib.Dec.{leb}
-use lib.ListN.{length, List·getD-eq-default}
+use lib.ListN.{length, getD, List·getD-eq-default}
 use borrow.Author.Tests.{le-leb, lt-leb, le-ltb, lt-ltb, leb-true, leb-false}
 use Rattle.theory.specs.Bits.{Bits, front, prefixOf}
 use Rattle.theory.specs.Ledger.{isHeld, orElse, longest}
 use Rattle.theory.proofs.Hops.{by-test, never}
+use Rattle.theory.proofs.Longest.{none-some}
 use Rattle.theory.proofs.Walk.{best, prefix-length, longest-walk}
 use Rattle.rules.specs.Numbers.{lowestHop, highestHop}
+use Rattle.rules.specs.Plain.{WithinRules}
 use Rattle.memory.specs.Layout.{Memory, slots, Whole, find, readHop, hopAt, ledgerOf}
 use Rattle.memory.proofs.Find.{same-or, below-or, none-deeper, find-le}
 
@@ -38,17 +41,23 @@ hop-test v l =
       | inr e ↦ rw (e, hop-high v (leb-false v (suc highestHop) e))
     ]
 
--- a number that stands for a hop is not 0, and the hop is 1 less
-pub held-stored : (v : ℕ) → isHeld (readHop v) ≡ true → (0 < v) × (readHop v ≡ some (v - 1))
-held-stored v h =
+-- a number that stands for a hop lies in the hops' range moved up by 1, so it is not 0, and the hop is 1 less
+stored-range : (v : ℕ) → isHeld (readHop v) ≡ true → (lowestHop < v) × (v ≤ suc highestHop)
+stored-range v h =
     elim (below-or lowestHop v) [
       | inr low ↦ never h (ap isHeld (hop-low v low))
-      | inl low ↦
-          elim (below-or (suc highestHop) v) [
-            | inl high ↦ never h (ap isHeld (hop-high v high))
-            | inr high ↦ (omega arith, hop-stored v low high)
-          ]
+      | inl low ↦ elim (below-or (suc highestHop) v) [ inl high ↦ never h (ap isHeld (hop-high v high)) | inr high ↦ (low, high) ]
     ]
+
+pub held-stored : (v : ℕ) → isHeld (readHop v) ≡ true → (0 < v) × (readHop v ≡ some (v - 1))
+held-stored v h = let range = stored-range v h in (omega arith, hop-stored v (range .0) (range .1))
+
+read-range : (v h : ℕ) → readHop v ≡ some h → (lowestHop ≤ h) × (h ≤ highestHop)
+read-range v h e =
+    let range = stored-range v (ap isHeld e) in
+    let stored = hop-stored v (range .0) (range .1) in
+    let less : v - 1 ≡ h = cc in
+    (omega arith, omega arith)
 
 module _ (w : ℕ) (m : Memory) where
   pub ledger-at : (s : Bits) → length s ≤ w → ledgerOf w m s ≡ hopAt m (find (m .tree) (reverse s))
@@ -58,6 +67,16 @@ module _ (w : ℕ) (m : Memory) where
   pub ledger-long : (s : Bits) → w < length s → ledgerOf w m s ≡ none
   unfolding ledgerOf
   ledger-long s l = rw (lt-leb (length s) w l)
+
+  -- whatever the lent slices have in them, what is read is within the record rules
+  pub within-rules : WithinRules w (ledgerOf w m)
+  within-rules s h e =
+      elim (below-or w (length s)) [
+        | inl long ↦ none-some e (ledger-long s long)
+        | inr short ↦
+            let range = read-range (getD (m .hop) (find (m .tree) (reverse s)) 0) h (sym (ledger-at s short) ∙ e) in
+            (short, range .0, range .1)
+      ]
 
   pub ledger-front : (f : ℕ → Bool) (d : ℕ) → d ≤ w → ledgerOf w m (prefixOf f d) ≡ hopAt m (find (m .tree) (front f d))
   ledger-front f d l =

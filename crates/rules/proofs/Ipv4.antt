@@ -1,7 +1,7 @@
 -- THE THEOREM IN DOCUMENT 01'S WORDS: width 32, hops 1 to 64, all 4,294,967,296 addresses, every plain ledger with a
 -- default route.
-use mathlib.Core.Path.{_≡_, ap, _∙_}
-use mathlib.Core.Bool.{true, cond}
+use mathlib.Core.Path.{_≡_, ap}
+use mathlib.Core.Bool.{true}
 use mathlib.Core.List.{List, []}
 use mathlib.Core.Option.{none}
 use Prim.Native.Nat.{ℕ, _≤_, _<_}
@@ -10,13 +10,13 @@ use lib.ListN.{length}
 use Rattle.theory.specs.Ledger.{Ledger, Entry, isHeld, load}
 use Rattle.rules.specs.Numbers.{ipv4, width}
 use Rattle.rules.specs.Records.{printTable}
-use Rattle.rules.specs.Plain.{Reached, at-first, after}
-use Rattle.rules.specs.Lookup.{hopOf, Scanned, scanned, Answer, lookedUp}
+use Rattle.rules.specs.Plain.{Reached, at-first, after, WithinRules}
+use Rattle.rules.specs.Lookup.{hopOf, scanned, lookedUp}
 use Rattle.rules.specs.Writing.{smallestTable, SmallestFor}
-use Rattle.rules.proofs.Records.{scanned-table}
 use Rattle.rules.proofs.Plain.{Kept, nothing-within, updated-kept}
 use Rattle.rules.proofs.Slots.{needs-nothing}
 use Rattle.rules.proofs.Smallest.{smallest-for, forward-alike}
+use Rattle.rules.proofs.Lists.{table-reads-back, table-looked-up}
 
 -- what updates reach is within the rules, and within the slots that are lent
 pub reached-kept : (k slots : ℕ) → 1 ≤ slots → (L : Ledger ℕ) → Reached k slots L → Kept (width k) slots L
@@ -25,9 +25,12 @@ reached-kept k slots lent L at-first =
 reached-kept k slots lent L (after {L = M} r bytes) = updated-kept k slots M bytes (reached-kept k slots lent M r)
 
 module _ (slots : ℕ) (lent : 1 ≤ slots) (L : Ledger ℕ) (reached : Reached ipv4 slots L) (default : isHeld (L []) ≡ true) where
+  within : WithinRules (width ipv4) L
+  within = reached-kept ipv4 slots lent L reached .within
+
   -- everything that is promised of the table
   pub smallest : SmallestFor ipv4 L (smallestTable ipv4 L)
-  smallest = smallest-for ipv4 L (reached-kept ipv4 slots lent L reached .within) default
+  smallest = smallest-for ipv4 L within default
 
   -- in full words: it agrees on all addresses, ..
   pub agrees-everywhere : (x : ℕ) → x < 4294967296 → hopOf ipv4 (load (smallestTable ipv4 L)) x ≡ hopOf ipv4 L x
@@ -40,15 +43,11 @@ module _ (slots : ℕ) (lent : 1 ≤ slots) (L : Ledger ℕ) (reached : Reached 
 
   -- .. and its records, looked up as a list, answer as the ledger does
   pub reads-back : scanned ipv4 (printTable ipv4 (smallestTable ipv4 L)) ≡ record { refusal = none; place = 0; entries = smallestTable ipv4 L }
-  reads-back = scanned-table ipv4 (smallestTable ipv4 L) (smallest .proper) (smallest .real-hops)
+  reads-back = table-reads-back ipv4 L within default
 
   pub looked-up : (x : ℕ) → x < 4294967296
       → lookedUp ipv4 (printTable ipv4 (smallestTable ipv4 L)) x ≡ record { refusal = none; hop = hopOf ipv4 L x; place = 0 }
-  unfolding lookedUp
-  looked-up x l =
-      let answer : Scanned → Answer =
-      λ s. record { refusal = s .refusal; hop = cond (isHeld (s .refusal)) 0 (hopOf ipv4 (load (s .entries)) x); place = s .place } in
-      ap answer reads-back ∙ ap (λ h. record { refusal = none; hop = h; place = 0 }) (agrees-everywhere x l)
+  looked-up = table-looked-up ipv4 L within default
 
 -- two ledgers that forward alike write the same bytes
 pub same-bytes : (L M : Ledger ℕ) → ((x : ℕ) → x < 4294967296 → hopOf ipv4 L x ≡ hopOf ipv4 M x)

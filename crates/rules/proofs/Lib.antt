@@ -2,5 +2,6 @@ pub mod Smallest
 pub mod Records
 pub mod Plain
 pub mod Slots
+pub mod Lists
 pub mod Ipv4
 pub mod Room

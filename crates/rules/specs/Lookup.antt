@@ -1,8 +1,9 @@
 -- LOOKUP: the hop of an address in a ledger, and in a list of records.
+use mathlib.Core.Path.{_≡_}
 use mathlib.Core.Bool.{cond}
 use mathlib.Core.List.{List, [], _∷_, map}
 use mathlib.Core.Option.{Option, none, some}
-use Prim.Native.Nat.{ℕ, suc}
+use Prim.Native.Nat.{ℕ, suc, _<_, _^_}
 use Rattle.theory.specs.Bits.{bitsOf}
 use Rattle.theory.specs.Ledger.{Ledger, Entry, _via_, isHeld, longest, load}
 use Rattle.rules.specs.Numbers.{width, noRoute, badListLength, badAction}
@@ -43,3 +44,7 @@ unfoldable pub lookedUp : ℕ → List ℕ → ℕ → Answer
 lookedUp k bytes x =
     let s = scanned k bytes in
     record { refusal = s .refusal; hop = cond (isHeld (s .refusal)) 0 (hopOf k (load (s .entries)) x); place = s .place }
+
+-- a list of bytes answers as a ledger does: the same hop for each address, all 2 ^ width of them
+abbrev pub AnswersAs : ℕ → Ledger ℕ → List ℕ → Type 0
+AnswersAs k L bytes = (x : ℕ) → x < 2 ^ width k → lookedUp k bytes x ≡ record { refusal = none; hop = hopOf k L x; place = 0 }

@@ -10,6 +10,7 @@ pub mod Strings
 pub mod Rules
 pub mod Held
 pub mod OneHop
+pub mod Splits
 pub mod Updates
 pub mod Theorem
 pub mod Pigeonhole
