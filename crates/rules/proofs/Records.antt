@@ -131,15 +131,21 @@ readings-print k cs ok = ap (map (read update k)) (records-print k cs) ∙ go cs
     go [] ok = refl
     go (c ∷ cs) ok = ap₂ _∷_ (read-print k c (ok .0)) (go cs (ok .1))
 
--- a written table, looked up, is the list of its entries
+-- A table's entries are announcements that records can carry, and what is written of it, looked up, is the list of its entries.
+pub announcements-proper : (k : ℕ) (es : List Entry) → Each (Proper hopBound (width k)) es → Each RealHop es
+    → Each (ProperChange (width k)) (announcements es)
+announcements-proper k [] ok real = tt
+announcements-proper k (p via h ∷ es) ok real =
+    ((ok .0 .0, real .0, let l = ok .0 .2 in omega arith), announcements-proper k es (ok .1) (real .1))
+
 pub scanned-table : (k : ℕ) (es : List Entry) → Each (Proper hopBound (width k)) es → Each RealHop es
     → scanned k (printTable k es) ≡ record { refusal = none; place = 0; entries = es }
 unfolding scanned
 scanned-table k es ok real =
-    rw (whole-print k (announcements es)) (ap (λ rs. scanAll (map (read lookup k) rs)) (records-print k (announcements es)) ∙ go es ok real)
+    rw (whole-print k (announcements es))
+    (ap (λ rs. scanAll (map (read lookup k) rs)) (records-print k (announcements es)) ∙ go es (announcements-proper k es ok real))
   where
-    go : (es : List Entry) → Each (Proper hopBound (width k)) es → Each RealHop es
+    go : (es : List Entry) → Each (ProperChange (width k)) (announcements es)
         → scanAll (map (read lookup k) (map (print k) (announcements es))) ≡ record { refusal = none; place = 0; entries = es }
-    go [] ok real = refl
-    go (p via h ∷ es) ok real =
-        ap₂ scanOn (read-announcement lookup k p h (ok .0 .0, real .0, let l = ok .0 .2 in omega arith)) (go es (ok .1) (real .1))
+    go [] ok = refl
+    go (p via h ∷ es) ok = ap₂ scanOn (read-announcement lookup k p h (ok .0)) (go es (ok .1))
