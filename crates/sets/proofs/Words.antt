@@ -1,4 +1,5 @@
--- How a word holds a set's members: each operation on words is one on sets. Digit k of a word stands for hop k + 1.
+-- How a word holds a set's members: each operation on words is one on sets. Digit k of a word stands for hop k + 1, and a word
+-- has as many digits as there are hops, so that it is below 2 ^ highestHop.
 use mathlib.Core.Path.{_≡_, refl, sym, ap, ap₂, fun-ext, _∙_}
 use mathlib.Core.Logic.{inl, inr}
 use mathlib.Core.Bool.{Bool, Bool·not-not, true, false, not, cond, _&&_, _||_}
@@ -15,7 +16,7 @@ use Rattle.theory.proofs.Hops.{by-test, never, join-apart, join-meets}
 use Rattle.rules.specs.Numbers.{lowestHop, highestHop, hopBound}
 use Rattle.sets.specs.Sets.{members}
 
--- the digit of weight 2 ^ k, and the digits above the lowest one
+-- the digit of weight 2 ^ k, as a test: the lowest one, those above it, and back as a number
 abbrev digit : ℕ → ℕ → Bool
 digit x k = eqb (x / 2 ^ k % 2) 1
 
