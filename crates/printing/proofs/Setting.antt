@@ -1,8 +1,8 @@
--- A path's bit set by `|`: one half of the path gets one digit more, the other stays.
-use mathlib.Core.Path.{_≡_, refl, sym, ap, _∙_}
+-- A path's bit set by `|`: the half where it stands has that bit more, the other half stays.
+use mathlib.Core.Path.{_≡_, sym, ap, _∙_}
 use mathlib.Core.Bool.{_||_, or-comm}
 use mathlib.Core.Logic.{inl, inr}
-use Prim.Native.Nat.{ℕ, _+_, _-_, _*_, _%_, _^_, _≤_, _<_}
+use Prim.Native.Nat.{ℕ, _-_, _*_, _%_, _^_, _≤_, _<_}
 use native.Mathlib.Omega.{arith}
 use native.Mathlib.Nat.{one-mul}
 use lib.Pow.{shl-exact}
@@ -21,7 +21,7 @@ shifted s = 1 * 2 ^ s % 2 ^ 64
 
 -- the word x, whose last bit is the path's bit `last`
 module _ (x last place i : ℕ) (place-in : place ≤ last) (i-in : i ≤ last) where
-  -- places and digits are counted from opposite ends
+  -- places are counted from the first bit, weights from the last
   mirrored : eqb (last - i) (last - place) ≡ eqb i place
   mirrored =
       elim (by-test (eqb i place)) [

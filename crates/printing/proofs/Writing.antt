@@ -1,6 +1,6 @@
 -- A record written byte by byte: at each turn the output has the address's bytes passed, and then the four behind them.
 use mathlib.Core.Path.{_≡_, refl, sym, ap, ap₂, _∙_}
-use mathlib.Core.List.{List, [], _∷_, _++_}
+use mathlib.Core.List.{List, [], _∷_}
 use Prim.Native.Nat.{ℕ, _+_, _/_, _%_, _≤_, _<_}
 use native.Mathlib.Omega.{arith}
 use native.Mathlib.Nat.{mod-eq-of-lt, div-one}
@@ -46,14 +46,15 @@ module _ {l : List ℕ} {at k : ℕ} {path : Path} {size hop : ℕ} (can : CanPr
   }
 
   -- THE WHOLE RECORD, once the length, the action and the two bytes of the hop are stored behind the address
-  pub written-all : {m : List ℕ} {i : ℕ} → Written l at k path size m i → k ≤ i
-      → set (set (set (set m (at + k) size) (at + k + 1) announceAction) (at + k + 2) (hop / 256)) (at + k + 3) (hop % 256)
+  pub written-all : {m : List ℕ} {i : ℕ} (high low : ℕ) → Written l at k path size m i → k ≤ i → high ≡ hop / 256 → low ≡ hop % 256
+      → set (set (set (set m (at + k) size) (at + k + 1) announceAction) (at + k + 2) high) (at + k + 3) low
       ≡ patch at (print k (announces (prefixOf (pathBit path) size) hop)) l
-  written-all {m} {i} written end =
+  written-all {m} {i} high low written end high-is low-is =
       let bytes = addressBytes k path size in
       let rest : List ℕ = size ∷ announceAction ∷ hop / 256 ∷ hop % 256 ∷ [] in
-      let high : hop / 256 < 256 = omega (arith, can .two-bytes) in
+      let small : hop / 256 < 256 = omega (arith, can .two-bytes) in
       let whole : m ≡ patch at bytes l = written .so-far ∙ ap (λ xs. patch at xs l) (take-all i bytes (omega (arith, long))) in
+      let length-is = prefix-length (pathBit path) size in
       rw
-      (whole, add-one (at + k), add-two (at + k), add-three (at + k), prefix-length (pathBit path) size, mod-eq-of-lt high, div-one hop)
+      (whole, high-is, low-is, add-one (at + k), add-two (at + k), add-three (at + k), length-is, mod-eq-of-lt small, div-one hop)
       (ap (λ n. sets (patch at bytes l) (at + n) rest) (sym long) ∙ patch-stores at bytes rest l (omega (arith, long, can .room)))

@@ -29,7 +29,7 @@ pub record CanPrint (output : List ℕ) (at k : ℕ) (path : Path) (size hop : �
   pub clear : ClearFrom path size (width k)
   pub two-bytes : hop < 65536
 
--- a path's bytes, as its bits: the one at a place, counted from the first, 8 of them in `high`, the next 8 in `low`
+-- a path's bytes, and the one at a place, counted from the first: 8 of them in `high`, the next 8 in `low`
 abbrev pub pathBytes : ℕ
 pathBytes = 16
 

@@ -1,5 +1,5 @@
-// One announcement out: its record is put into a lent output. A path's bit is set on the way to a route. Nothing here knows how
-// long an address is: a caller says how many bytes it has.
+// One record out: the announcement of a path's first bits is put into a lent output; and a bit of a path is set, on the way down
+// to it. Nothing here knows how long an address is: a caller says how many bytes it has.
 ghost use mathlib.Core.Path.{_≡_};
 ghost use Prim.Native.Nat.{_<_};
 ghost use Rattle.theory.specs.Bits.{prefixOf};
@@ -37,16 +37,8 @@ fn byte_of(path: Path, i: usize) -> u8
     ((path.low >> (120 - 8 * i)) % 256) as u8
 }
 
-// The record of a route, put into the output at `at`: the route's prefix is the path's first `size` bits, and an address has
-// `bytes` bytes.
-pub fn put_record(
-    output: &mut [u8],
-    at: usize,
-    bytes: usize,
-    path: Path,
-    size: usize,
-    hop: u32,
-)
+// The record that announces the path's first `size` bits with a hop, put into the output at `at`. An address has `bytes` bytes.
+pub fn put_record(output: &mut [u8], at: usize, bytes: usize, path: Path, size: usize, hop: u32)
     requires { ⌜ CanPrint (now output) at bytes path size hop ⌝ }
     ensures { λ _. ⌜ now (output .exit) ≡ patch at (print bytes (announces (prefixOf (pathBit path) size) hop)) (now (output .entry)) ⌝ }
 {

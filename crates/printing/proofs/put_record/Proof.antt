@@ -34,7 +34,7 @@ loop-less c = search needs
 loop-again : tie.Need-loop-again Inv-loop μ-loop
 loop-again c =
     let entry = c .before .before .before .before in
-    written-more (entry .pre) (c .before .before .loop .inv) (c .before .loop-test .taken) (c .byte-of .ensures)
+    written-more (entry .pre) (c .before .before .loop .inv) (omega arith) (c .byte-of .ensures)
 
 add-rest : tie.Need-add-rest Inv-loop μ-loop
 add-rest c = search needs
@@ -73,7 +73,7 @@ same-length : tie.Need-same-length Inv-loop μ-loop
 same-length c = search needs
 
 returns : tie.Need-returns Inv-loop μ-loop
-returns c = written-all (c .before .before .before .pre) (c .before .loop .inv) (c .loop-test .left)
+returns c = written-all (c .before .before .before .pre) _ _ (c .before .loop .inv) (omega arith) (omega arith) (omega arith)
 
 pub put-record-spec : {M : Type 1} → statement M
 put-record-spec =
