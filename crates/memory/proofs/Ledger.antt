@@ -52,7 +52,7 @@ stored-range v h =
 pub held-stored : (v : ℕ) → isHeld (readHop v) ≡ true → (0 < v) × (readHop v ≡ some (v - 1))
 held-stored v h = let range = stored-range v h in (omega arith, hop-stored v (range .0) (range .1))
 
-read-range : (v h : ℕ) → readHop v ≡ some h → (lowestHop ≤ h) × (h ≤ highestHop)
+pub read-range : (v h : ℕ) → readHop v ≡ some h → (lowestHop ≤ h) × (h ≤ highestHop)
 read-range v h e =
     let range = stored-range v (ap isHeld e) in
     let stored = hop-stored v (range .0) (range .1) in
