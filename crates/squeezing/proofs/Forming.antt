@@ -134,7 +134,7 @@ module _ (m : Memory) where
         let one = one-string (m .tree) (whole .shaped) (reverse s ++ q) (reverse r ++ q) same-slot (omega (arith, descend-find (m .tree) s q)) in
         sym (reverse-reverse s) ∙ ap reverse (append-same (reverse s) (reverse r) q one) ∙ reverse-reverse r)
 
-    allowed : (d : ℕ) → HopInRange d → AllAllowed hopBound w (leavesBelow w m (find (m .tree) q) d)
+    pub allowed : (d : ℕ) → HopInRange d → AllAllowed hopBound w (leavesBelow w m (find (m .tree) q) d)
     allowed d real a e =
         let high = longest-keeps (λ h. h ≤ highestHop) below-it d (λ s h e. walk-range m s w (find (m .tree) q) h e .1) (real .1) a in
         only-allowed hopBound (longest below-it d a) (omega arith)

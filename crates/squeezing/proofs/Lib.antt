@@ -1,2 +1,4 @@
 pub mod Below
 pub mod Forming
+pub mod Entering
+pub mod Walking

@@ -1,2 +1,3 @@
 pub mod Below
 pub mod Stored
+pub mod Entries

@@ -2,11 +2,15 @@
 // bits that are left, so both end; what is no slot is answered at the top, so both sides are called without a test.
 ghost use mathlib.Core.Path.{_≡_};
 ghost use mathlib.Core.Bool.{cond};
-ghost use Rattle.theory.specs.Hops.{some-below, common};
-ghost use Rattle.rules.specs.Numbers.{hopBound};
+ghost use Prim.Native.Nat.{_<_, _≤_};
+ghost use lib.ListN.{length, getD};
+ghost use Rattle.theory.specs.Hops.{only, some-below, common};
+ghost use Rattle.rules.specs.Numbers.{hopBound, highestHop};
 ghost use Rattle.memory.specs.Layout.{memoryOf};
 ghost use Rattle.sets.specs.Sets.{members};
-ghost use Rattle.squeezing.specs.Stored.{CanForm, Forms};
+ghost use Rattle.squeezing.specs.Stored.{HopInRange, CanForm, Forms};
+ghost use Rattle.squeezing.specs.Entries.{Puts, stringOf, tableBelow, CanEnter, Enters, CanWrite};
+use memory::Path;
 
 // The set of a string, and how many strings from it on have children whose sets are apart.
 pub struct Formed {
@@ -79,4 +83,115 @@ pub fn form_sets(
         set,
         splits: zero.splits + one.splits + split(zero.set, one.set),
     }
+}
+
+// Where writing stands: the hop in force in the table, and the place behind the last record.
+pub struct Standing {
+    pub hop: u32,
+    pub at: usize,
+}
+
+// The set of a slot's string as it was stored; where there is no slot, one hop goes throughout.
+fn set_of(scratch: &[u64], slot: usize, above: u32) -> u64
+    requires { ⌜ HopInRange above ⌝ }
+    ensures there { λ r. ⌜ (slot < length (now (scratch .entry)) → r ≡ getD (now (scratch .entry)) slot 0) ⌝ }
+    ensures beyond { λ r. ⌜ (length (now (scratch .entry)) ≤ slot → members r ≡ only above) ⌝ }
+{
+    if slot < scratch.len() {
+        return scratch[slot];
+    }
+    sets::only(above)
+}
+
+// A string gets no entry if the hop in force above is in its set; else one with the least hop of the set.
+fn enter(
+    output: &mut [u8],
+    at: usize,
+    bytes: usize,
+    path: Path,
+    left: usize,
+    set: u64,
+    chosen: u32,
+) -> Standing
+    requires { ⌜ CanEnter bytes left path set chosen at (now output) × (chosen ≤ highestHop) ⌝ }
+    ensures { λ r. ⌜ Enters bytes left path set chosen at (now (output .entry)) (now (output .exit)) r ⌝ }
+{
+    if sets::has(set, chosen) {
+        return Standing { hop: chosen, at };
+    }
+    let hop = sets::least(set);
+    printing::put_record(output, at, bytes, path, 8 * bytes - left, hop);
+    Standing {
+        hop,
+        at: at + bytes + 4,
+    }
+}
+
+// The entries from a slot's string on, put into the output from `at` on: its own, those below its 0, those below its 1. `path` is
+// the string, `left` bits short of an address of `bytes` bytes; `above` is in force above it in the ledger, `chosen` in the table.
+pub fn write_entries(
+    lo: &[u32],
+    hi: &[u32],
+    up: &[u32],
+    hop: &[u32],
+    scratch: &[u64],
+    output: &mut [u8],
+    slot: usize,
+    left: usize,
+    above: u32,
+    chosen: u32,
+    path: Path,
+    bytes: usize,
+    at: usize,
+) -> usize
+    requires { ⌜ CanWrite (memoryOf (now lo) (now hi) (now up) (now hop)) (now scratch) bytes slot left above chosen at path (now output) ⌝ }
+    ensures { λ r. ⌜ Puts bytes (stringOf bytes left path) (tableBelow left (memoryOf (now (lo .entry)) (now (hi .entry)) (now (up .entry)) (now (hop .entry))) slot above chosen) at (now (output .entry)) r (now (output .exit)) ⌝ }
+{
+    let here = enter(
+        output,
+        at,
+        bytes,
+        path,
+        left,
+        set_of(scratch, slot, above),
+        chosen,
+    );
+    if slot >= up.len() {
+        return here.at;
+    }
+    if left == 0 {
+        return here.at;
+    }
+    let held = memory::hop_or(hop[slot], above);
+    let middle = write_entries(
+        lo,
+        hi,
+        up,
+        hop,
+        scratch,
+        output,
+        memory::child_of(lo, hi, up, slot, false),
+        left - 1,
+        held,
+        here.hop,
+        path,
+        bytes,
+        here.at,
+    );
+    let right = printing::set_bit(path, 8 * bytes - left);
+    write_entries(
+        lo,
+        hi,
+        up,
+        hop,
+        scratch,
+        output,
+        memory::child_of(lo, hi, up, slot, true),
+        left - 1,
+        held,
+        here.hop,
+        right,
+        bytes,
+        middle,
+    )
 }
