@@ -6,10 +6,12 @@ use mathlib.Core.Bool.{true, false}
 use mathlib.Core.List.{List, [], _++_}
 use mathlib.Core.Option.{Option, none, some}
 use Prim.Native.Nat.{ℕ, _≤_, _<_}
+use native.Mathlib.Omega.{arith}
+use lib.Dec.{ltb}
 use lib.ListN.{length, drop}
-use borrow.Author.Tests.{lt-ltb, le-ltb, eq-eqb, ne-eqb}
+use borrow.Author.Tests.{ltb-true, ltb-false, lt-ltb, le-ltb, eq-eqb, ne-eqb}
 use Rattle.theory.specs.Ledger.{Entry, isHeld}
-use Rattle.theory.proofs.Hops.{or-right}
+use Rattle.theory.proofs.Hops.{by-test, or-right}
 use Rattle.theory.proofs.Longest.{none-some}
 use Rattle.rules.specs.Numbers.{ipv4, width, badSlices, noLedger, noDefault, shortOutput}
 use Rattle.rules.specs.Records.{printTable}
@@ -82,6 +84,17 @@ scratch-never-matters m output a b a' b' p q r s e one other =
         let there = same-outcome s (Refused x 0) b' q b output v in
         (here .0 ∙ sym (there .0), here .2 ∙ sym (there .2), λ not-so. absurd (not-so x (here .0)))
 
+-- WHAT 1 REFUSES: the lent slices, or a scratch of another length; and what 1 and 2 let through
+module _ (m : Memory) (scratch : List ℕ) where
+  pub fault-slices : (badLent m ≡ true) ⊎ (length scratch ≡ slots (m .tree) → ⊥) → writeFault m scratch ≡ some badSlices
+  unfolding writeFault
+  fault-slices (inl bad) = rw bad
+  fault-slices (inr other) = rw (ne-eqb (length scratch) (slots (m .tree)) other, or-right (badLent m) true refl)
+
+  pub fault-none : lentFault m ≡ none → length scratch ≡ slots (m .tree) → writeFault m scratch ≡ none
+  unfolding writeFault
+  fault-none fine same = rw (of-good m (let-through m fine), eq-eqb (length scratch) (slots (m .tree)) same, holds-of m fine)
+
 -- THE REFUSALS AND THE TABLE, in plain words
 module _ (m : Memory) (scratch output scratch' output' : List ℕ) (r : Wrote) (meets : Writes m scratch output scratch' output' r) where
   -- the answer, and what is left in the scratch and in the output
@@ -94,19 +107,17 @@ module _ (m : Memory) (scratch output scratch' output' : List ℕ) (r : Wrote) (
 
   -- 1: the lent slices, or a scratch of another length
   pub refused-1 : (badLent m ≡ true) ⊎ (length scratch ≡ slots (m .tree) → ⊥) → Ends (Refused badSlices 0) scratch output
-  unfolding writeFault
-  refused-1 (inl bad) = refused-so badSlices (rw bad)
-  refused-1 (inr other) = refused-so badSlices (rw (ne-eqb (length scratch) (slots (m .tree)) other, or-right (badLent m) true refl))
+  refused-1 bad = refused-so badSlices (fault-slices m scratch bad)
 
   -- 2: slices and scratch of one length, and no ledger
   pub refused-2 : badLent m ≡ false → length scratch ≡ slots (m .tree) → holdsLedger (m .tree) ≡ false → Ends (Refused noLedger 0) scratch output
   unfolding writeFault
   refused-2 good same empty = refused-so noLedger (rw (good, eq-eqb (length scratch) (slots (m .tree)) same, empty))
 
-  module _ (fine : writeFault m scratch ≡ none) where
-    abbrev T : List Entry
-    T = smallestTable ipv4 (ledgerOf (width ipv4) m)
+  abbrev T : List Entry
+  T = smallestTable ipv4 (ledgerOf (width ipv4) m)
 
+  module _ (fine : writeFault m scratch ≡ none) where
     goes-on : writeOf m scratch output ≡ writtenInto (written ipv4 (ledgerOf (width ipv4) m)) scratch output
     unfolding writeOf
     goes-on = ap (λ f. writeAfter f m scratch output) fine
@@ -129,8 +140,22 @@ module _ (m : Memory) (scratch output scratch' output' : List ℕ) (r : Wrote) (
           same-outcome r (Table (length T)) scratch' output' (zeros (length scratch)) (printTable ipv4 T ++ drop (bytesFor T) output)
           (meets .outcome ∙ goes-on ∙ rw (default, le-ltb (length output) (bytesFor T) fits))
 
--- what 1 and 2 let through in every call, with a scratch of one word a slot
-pub fault-none : (m : Memory) (scratch : List ℕ) → lentFault m ≡ none → length scratch ≡ slots (m .tree) → writeFault m scratch ≡ none
-unfolding writeFault
-fault-none m scratch fine same =
-    rw (of-good m (let-through m fine), eq-eqb (length scratch) (slots (m .tree)) same, holds-of m fine)
+  -- and only so is a table answered
+  pub only-so : (c : ℕ) → r ≡ Table c → Ends (Table (length T)) (zeros (length scratch)) (printTable ipv4 T ++ drop (bytesFor T) output)
+  only-so c is = go (writeFault m scratch) refl
+    where
+      other : {A : Type 0} {x k : ℕ} → r ≡ Refused x k → A
+      other e = absurd (let z : _≡_ {A = ℕ} 0 1 = cc in omega arith)
+
+      go : (f : Option ℕ) → writeFault m scratch ≡ f
+          → Ends (Table (length T)) (zeros (length scratch)) (printTable ipv4 T ++ drop (bytesFor T) output)
+      go (some x) e = other (refused-so x e .0)
+      go none e =
+          elim (by-test (isHeld (ledgerOf (width ipv4) m []))) [
+            | inr none-held ↦ other (refused-10 e none-held .0)
+            | inl default ↦
+                elim (by-test (ltb (length output) (bytesFor T))) [
+                  | inl short ↦ other (refused-11 e default (ltb-true (length output) (bytesFor T) short) .0)
+                  | inr fits ↦ table-written e default (ltb-false (length output) (bytesFor T) fits)
+                ]
+          ]
