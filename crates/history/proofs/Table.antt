@@ -30,7 +30,7 @@ use Rattle.ledger.proofs.Wrong.{from-zeros}
 use Rattle.writing.specs.declared.Wrote.{Wrote}
 use Rattle.writing.specs.declared.Wrote.the-variants.{Table}
 use Rattle.writing.specs.Promise.{bytesFor, writeFault, Writes}
-use Rattle.writing.proofs.Promise.{Same, fault-none, table-written, only-so}
+use Rattle.writing.proofs.Promise.{Same, fault-none, table-of, only-so}
 use Rattle.history.specs.Theorem.{IsSmallest, WritesSmallest}
 
 -- a table's bytes: one record an entry
@@ -51,7 +51,7 @@ written-from : (m : Memory) (scratch output scratch' output' : List ℕ) (r : Wr
     → (T : List Entry) → smallestTable ipv4 (ledgerOf (width ipv4) m) ≡ T → bytesFor T ≤ length output
     → Same r scratch' output' (Table (length T)) (zeros (length scratch)) (printTable ipv4 T ++ drop (length (printTable ipv4 T)) output)
 written-from m scratch output scratch' output' r meets fine held T is room =
-    rw table-bytes (rw is at (table-written m scratch output scratch' output' r meets fine held (rw is room)))
+    rw table-bytes (table-of m scratch output scratch' output' r meets fine T (rw (held, is)) room)
 
 -- THE TABLE OF A LEDGER within the rules, with a default route
 module _ (L : Ledger ℕ) (ok : WithinRules (width ipv4) L) (default : isHeld (L []) ≡ true) where

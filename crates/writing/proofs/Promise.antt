@@ -126,19 +126,23 @@ module _ (m : Memory) (scratch output scratch' output' : List ℕ) (r : Wrote) (
     pub refused-10 : isHeld (ledgerOf (width ipv4) m []) ≡ false → Ends (Refused noDefault 0) scratch output
     refused-10 none-held = same-outcome r (Refused noDefault 0) scratch' output' scratch output (meets .outcome ∙ goes-on ∙ rw none-held)
 
+    -- THE TABLE: its bytes, every byte behind them as it was, and the scratch zero
+    pub table-of : (U : List Entry) → written ipv4 (ledgerOf (width ipv4) m) ≡ writes U → bytesFor U ≤ length output
+        → Ends (Table (length U)) (zeros (length scratch)) (printTable ipv4 U ++ drop (bytesFor U) output)
+    table-of U is fits =
+        same-outcome r (Table (length U)) scratch' output' (zeros (length scratch)) (printTable ipv4 U ++ drop (bytesFor U) output)
+        (meets .outcome ∙ goes-on ∙ rw (is, le-ltb (length output) (bytesFor U) fits))
+
     module _ (default : isHeld (ledgerOf (width ipv4) m []) ≡ true) where
+      pub table-written : bytesFor T ≤ length output
+          → Ends (Table (length T)) (zeros (length scratch)) (printTable ipv4 T ++ drop (bytesFor T) output)
+      table-written = table-of T (rw default)
+
       -- 11: the output is too short; the count is the one that is needed, the output is as it was, and the scratch is zero
       pub refused-11 : length output < bytesFor T → Ends (Refused shortOutput (length T)) (zeros (length scratch)) output
       refused-11 short =
           same-outcome r (Refused shortOutput (length T)) scratch' output' (zeros (length scratch)) output
           (meets .outcome ∙ goes-on ∙ rw (default, lt-ltb (length output) (bytesFor T) short))
-
-      -- THE TABLE: its bytes, every byte behind them as it was, and the scratch zero
-      pub table-written : bytesFor T ≤ length output
-          → Ends (Table (length T)) (zeros (length scratch)) (printTable ipv4 T ++ drop (bytesFor T) output)
-      table-written fits =
-          same-outcome r (Table (length T)) scratch' output' (zeros (length scratch)) (printTable ipv4 T ++ drop (bytesFor T) output)
-          (meets .outcome ∙ goes-on ∙ rw (default, le-ltb (length output) (bytesFor T) fits))
 
   -- and only so is a table answered
   pub only-so : (c : ℕ) → r ≡ Table c → Ends (Table (length T)) (zeros (length scratch)) (printTable ipv4 T ++ drop (bytesFor T) output)
