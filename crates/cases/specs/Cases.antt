@@ -99,6 +99,19 @@ tableE = * via 1 ∷ 0* via 2 ∷ []
 abbrev pub caseE : Case
 caseE = all-taken 64 2 (announces * 2 ∷ announces 1* 1 ∷ []) 2 (writes tableE)
 
+-- F, and G, which is F with 0* withdrawn: a writer that keeps the sets worked out with 0* is tried on it
+abbrev pub tableF : List Entry
+tableF = * via 2 ∷ []
+
+abbrev pub caseF : Case
+caseF = all-taken 64 3 (announces * 1 ∷ announces 0* 2 ∷ announces 1* 2 ∷ []) 3 (writes tableF)
+
+abbrev pub tableG : List Entry
+tableG = * via 1 ∷ 1* via 2 ∷ []
+
+abbrev pub caseG : Case
+caseG = all-taken 64 4 (announces * 1 ∷ announces 0* 2 ∷ announces 1* 2 ∷ withdraws 0* ∷ []) 2 (writes tableG)
+
 -- C's table whole, byte by byte, and C's routes as they were announced
 abbrev pub bytesC : List ℕ
 bytesC =
@@ -124,10 +137,9 @@ cases =
     -- E
     ∷ caseE
     -- F
-    ∷ all-taken 64 3 (announces * 1 ∷ announces 0* 2 ∷ announces 1* 2 ∷ []) 3 (writes (* via 2 ∷ []))
-    -- G: F, then withdraw 0*
-    ∷ all-taken 64 4 (announces * 1 ∷ announces 0* 2 ∷ announces 1* 2 ∷ withdraws 0* ∷ []) 2
-    (writes (* via 1 ∷ 1* via 2 ∷ []))
+    ∷ caseF
+    -- G
+    ∷ caseG
     -- H
     ∷ all-taken 64 2 (announces * 5 ∷ announces ten/8 5 ∷ []) 9 (writes (* via 5 ∷ []))
     -- I

@@ -10,7 +10,7 @@ use Rattle.theory.specs.Smallest.{Leaves, half, entry, here, under, table}
 use Rattle.force.specs.Search.{Row, Writer, hopAt}
 
 -- a table by any rule for sets and any rule for entries
-abbrev setBy : (Hops → Hops → Hops) → ℕ → Leaves → Hops
+abbrev pub setBy : (Hops → Hops → Hops) → ℕ → Leaves → Hops
 setBy merge zero F = F []
 setBy merge (suc w) F = merge (setBy merge w (half false F)) (setBy merge w (half true F))
 

@@ -27,7 +27,7 @@ use Rattle.ledger.specs.Promise.{afterFault, updateOf, reportOf, reporte
 use Rattle.ledger.proofs.History.{zeroed-fine}
 
 -- a list of changes applied to zeroed memory is applied to the empty ledger
-from-zeros : (n : ℕ) → 0 < n → n ≤ mostSlots → (list : List ℕ) → updateOf (zeroed n) list ≡ updated ipv4 n nothing list
+pub from-zeros : (n : ℕ) → 0 < n → n ≤ mostSlots → (list : List ℕ) → updateOf (zeroed n) list ≡ updated ipv4 n nothing list
 unfolding updateOf
 from-zeros n some-slot few list =
     ap (λ o. afterFault o (zeroed n) list) (zeroed-fine n some-slot few)

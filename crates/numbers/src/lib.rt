@@ -1,8 +1,10 @@
 // The numbers of document 01 that code uses, each in this one place; crates/rules/specs/Numbers.antt is the same for the statements.
 // A contract that cites one of those is proved only if the two agree.
 
-// An address has this many bits, and a prefix at most as many.
-pub const WIDTH: usize = 32;
+// An address has this many bytes, and so many bits; a prefix has at most as many.
+pub const ADDRESS: usize = 4;
+
+pub const WIDTH: usize = 8 * ADDRESS;
 
 // The lengths that a prefix may have: 0 to 32.
 pub const LENGTHS: usize = WIDTH + 1;
@@ -51,3 +53,7 @@ pub const BAD_HOP: u32 = 7;
 pub const NOT_HELD: u32 = 8;
 
 pub const NO_SLOTS: u32 = 9;
+
+pub const NO_DEFAULT: u32 = 10;
+
+pub const SHORT_OUTPUT: u32 = 11;

@@ -1,0 +1,6 @@
+pub mod Two
+pub mod Table
+pub mod History
+pub mod Room
+pub mod Union
+pub mod Wrong
