@@ -22,6 +22,7 @@ use Rattle.rules.specs.Numbers.{ipv4, width, recordBytes, hopBound, noRoute, ba
 use Rattle.rules.specs.Records.{printTable}
 use Rattle.rules.specs.Writing.{smallestTable, written}
 use Rattle.rules.proofs.Smallest.{count-splits}
+use Rattle.memory.specs.declared.Path.{Path}
 use Rattle.memory.specs.Path.{pathBit}
 use Rattle.memory.specs.Layout.{Memory, slots, Whole, hopAt, ledgerOf, zeros}
 use Rattle.memory.proofs.Ledger.{read-range, ledger-at, within-rules}
@@ -88,8 +89,8 @@ module _ (m : Memory) (s : List ℕ) where
   unfolding writeOf
   refuse o x e = record { outcome = sym (ap (λ f. writeAfter f m s o) e) }
 
-  pub refuse-scratch : (o : List ℕ) → (length s ≡ slots (m .tree) → ⊥) → Writes m s o s o (Refused badSlices 0)
-  refuse-scratch o other = refuse o badSlices (fault-slices m s (inr other))
+  pub refuse-scratch : (o : List ℕ) (a b : ℕ) → (a ≡ b → ⊥) → a ≡ length s → b ≡ slots (m .tree) → Writes m s o s o (Refused badSlices 0)
+  refuse-scratch o a b other is-a is-b = refuse o badSlices (fault-slices m s (inr (λ e. other (is-a ∙ e ∙ sym is-b))))
 
   goes-on : lentFault m ≡ none → length s ≡ slots (m .tree) → (o : List ℕ) → writeOf m s o ≡ writtenInto (written ipv4 L) s o
   unfolding writeOf
@@ -138,57 +139,93 @@ module _ (m : Memory) (s : List ℕ) where
     table-is = ap (λ F. table hopBound w F noRoute) top-leaves
 
     module _ (s₁ : List ℕ) (f : Formed) (forms : Forms m s 0 w d s₁ f) where
-      counted : f .splits + 1 ≡ length T
-      counted = counted-at ipv4 m (leavesBelow w m 0 d) (f .splits) top-leaves held (forms .splits)
-
-      -- the count has room in a word
-      pub few-splits : f .splits ≤ slots (m .tree)
-      few-splits = subst (λ k. k ≤ slots (m .tree)) (sym (forms .splits)) (splits-room m (b .whole) w [] d (can-form .hop))
+      few-splits-so : f .splits ≤ slots (m .tree)
+      few-splits-so = subst (λ k. k ≤ slots (m .tree)) (sym (forms .splits)) (splits-room m (b .whole) w [] d (can-form .hop))
 
       zero-scratch : (s₂ : List ℕ) → s₂ ≡ zeros (length s₁) → s₂ ≡ zeros (length s)
       zero-scratch s₂ e = e ∙ ap zeros (forms .same-length)
 
-      -- 11
-      pub refuse-short : (o s₂ : List ℕ) → s₂ ≡ zeros (length s₁) → length o / recordBytes ipv4 < f .splits + 1
-          → Writes m s o s₂ o (Refused shortOutput (f .splits + 1))
-      refuse-short o s₂ cleared short =
-          let less : length o < bytesFor T = omega (arith, counted, short) in
-          record {
-            outcome =
-                ap₂ (λ c z. outcomeOf (Refused shortOutput c) z o) counted (zero-scratch s₂ cleared)
-                ∙ sym (goes-on (b .fine) (b .sized) o ∙ rw (held, lt-ltb (length o) (bytesFor T) less));
-          }
+      module _ (count : ℕ) (is : count ≡ f .splits + 1) where
+        counted : count ≡ length T
+        counted = is ∙ counted-at ipv4 m (leavesBelow w m 0 d) (f .splits) top-leaves held (forms .splits)
 
-      -- THE TABLE
-      module _ (o : List ℕ) (fits : f .splits + 1 ≤ length o / recordBytes ipv4) where
-        room : bytesFor T ≤ length o
-        room = omega (arith, counted, fits)
-
-        pub can-write : CanWrite m s₁ ipv4 0 w d noRoute 0 (record { high = 0; low = 0 }) o
-        can-write = record {
-          can = record { whole = b .whole; sized = forms .same-length ∙ b .sized; string = []; lies = refl; hop = can-form .hop };
-          stored = forms .stored;
-          chosen = omega arith;
-          path-short = record { fits = omega arith; short = omega arith; clear = clear-path w };
-          room = subst (λ U. Room ipv4 0 U o) (sym table-is) (omega (arith, room));
-        }
-
-        abbrev PutsAll : ℕ → List ℕ → Type 0
-        PutsAll at o₂ = Puts ipv4 (stringOf ipv4 w (record { high = 0; low = 0 })) (tableBelow w m 0 d noRoute) 0 o at o₂
-
-        pub kept-output : (o₂ : List ℕ) (at : ℕ) → PutsAll at o₂ → length o₂ ≡ length o
-        kept-output o₂ at puts = puts-length ipv4 puts (can-write .room)
-
-        pub wrote : (s₂ o₂ : List ℕ) (at : ℕ) → PutsAll at o₂ → s₂ ≡ zeros (length s₁) → Writes m s o s₂ o₂ (Table (f .splits + 1))
-        wrote s₂ o₂ at puts cleared =
-            let bytes : bytesBelow ipv4 [] (tableBelow w m 0 d noRoute) ≡ printTable ipv4 T =
-            ap (bytesBelow ipv4 []) table-is ∙ bytes-top ipv4 T in
-            let size : length (printTable ipv4 T) ≡ bytesFor T =
-            ap length (sym (bytes-top ipv4 T)) ∙ bytes-length ipv4 [] T in
-            let after : o₂ ≡ printTable ipv4 T ++ drop (bytesFor T) o =
-            puts .bytes ∙ ap (λ l. patch 0 l o) bytes ∙ patch-front (printTable ipv4 T) o ∙ ap (λ k. printTable ipv4 T ++ drop k o) size in
+        short-so : (o s₂ : List ℕ) → s₂ ≡ zeros (length s₁) → length o / recordBytes ipv4 < count
+            → Writes m s o s₂ o (Refused shortOutput count)
+        short-so o s₂ cleared short =
+            let less : length o < bytesFor T = omega (arith, counted, short) in
             record {
               outcome =
-                  (λ i. outcomeOf (Table (counted i)) (zero-scratch s₂ cleared i) (after i))
-                  ∙ sym (goes-on (b .fine) (b .sized) o ∙ rw (held, le-ltb (length o) (bytesFor T) room));
+                  ap₂ (λ c z. outcomeOf (Refused shortOutput c) z o) counted (zero-scratch s₂ cleared)
+                  ∙ sym (goes-on (b .fine) (b .sized) o ∙ rw (held, lt-ltb (length o) (bytesFor T) less));
             }
+
+        -- THE TABLE, with no route in force above the top
+        module _ (chosen : ℕ) (no-route : chosen ≡ noRoute) (o : List ℕ) (fits : count ≤ length o / recordBytes ipv4) where
+          abbrev top : Path
+          top = record { high = 0; low = 0 }
+
+          all : tableBelow w m 0 d chosen ≡ T
+          all = ap (tableBelow w m 0 d) no-route ∙ table-is
+
+          room : bytesFor T ≤ length o
+          room = omega (arith, counted, fits)
+
+          can-so : CanWrite m s₁ ipv4 0 w d chosen 0 top o
+          can-so = record {
+            can = record { whole = b .whole; sized = forms .same-length ∙ b .sized; string = []; lies = refl; hop = can-form .hop };
+            stored = forms .stored;
+            chosen = omega (arith, no-route);
+            path-short = record { fits = omega arith; short = omega arith; clear = clear-path w };
+            room = subst (λ U. Room ipv4 0 U o) (sym all) (omega (arith, room));
+          }
+
+          abbrev PutsAll : ℕ → List ℕ → Type 0
+          PutsAll at o₂ = Puts ipv4 (stringOf ipv4 w top) (tableBelow w m 0 d chosen) 0 o at o₂
+
+          kept-so : (o₂ : List ℕ) (at : ℕ) → PutsAll at o₂ → length o₂ ≡ length o
+          kept-so o₂ at puts = puts-length ipv4 puts (can-so .room)
+
+          wrote-so : (s₂ o₂ : List ℕ) (at : ℕ) → PutsAll at o₂ → s₂ ≡ zeros (length s₁) → Writes m s o s₂ o₂ (Table count)
+          wrote-so s₂ o₂ at puts cleared =
+              let bytes : bytesBelow ipv4 [] (tableBelow w m 0 d chosen) ≡ printTable ipv4 T = ap (bytesBelow ipv4 []) all ∙ bytes-top ipv4 T in
+              let size : length (printTable ipv4 T) ≡ bytesFor T = ap length (sym (bytes-top ipv4 T)) ∙ bytes-length ipv4 [] T in
+              let after : o₂ ≡ printTable ipv4 T ++ drop (bytesFor T) o =
+              puts .bytes ∙ ap (λ l. patch 0 l o) bytes ∙ patch-front (printTable ipv4 T) o ∙ ap (λ k. printTable ipv4 T ++ drop k o) size in
+              record {
+                outcome =
+                    (λ i. outcomeOf (Table (counted i)) (zero-scratch s₂ cleared i) (after i))
+                    ∙ sym (goes-on (b .fine) (b .sized) o ∙ rw (held, le-ltb (length o) (bytesFor T) room));
+              }
+
+    -- The same in the code's terms. What each number has to be stands last, so that a wrong one is what the prover shows.
+    module _ (s₁ : List ℕ) (f : Formed) (left : ℕ) (forms : Forms m s 0 left d s₁ f) where
+      at-width : left ≡ w → Forms m s 0 w d s₁ f
+      at-width full = subst (λ v. Forms m s 0 v d s₁ f) full forms
+
+      -- the count has room in a word
+      pub few-splits : left ≡ w → f .splits ≤ slots (m .tree)
+      few-splits full = few-splits-so s₁ f (at-width full)
+
+      -- 11
+      pub refuse-short : (count unit : ℕ) (o s₂ : List ℕ) → s₂ ≡ zeros (length s₁) → length o / unit < count → left ≡ w → count ≡ f .splits + 1
+          → unit ≡ recordBytes ipv4 → Writes m s o s₂ o (Refused shortOutput count)
+      refuse-short count unit o s₂ cleared short full is u =
+          short-so s₁ f (at-width full) count is o s₂ cleared (subst (λ n. length o / n < count) u short)
+
+      -- THE TABLE, with no route in force above the top
+      module _ (count unit : ℕ) (o : List ℕ) (fits : count ≤ length o / unit) where
+        room-for : unit ≡ recordBytes ipv4 → count ≤ length o / recordBytes ipv4
+        room-for u = subst (λ n. count ≤ length o / n) u fits
+
+        pub can-write : (chosen : ℕ) → left ≡ w → count ≡ f .splits + 1 → unit ≡ recordBytes ipv4 → chosen ≡ noRoute
+            → CanWrite m s₁ ipv4 0 w d chosen 0 (record { high = 0; low = 0 }) o
+        can-write chosen full is u no-route = can-so s₁ f (at-width full) count is chosen no-route o (room-for u)
+
+        module _ (chosen at : ℕ) (o₂ : List ℕ)
+            (puts : Puts ipv4 (stringOf ipv4 w (record { high = 0; low = 0 })) (tableBelow w m 0 d chosen) 0 o at o₂) where
+          pub kept-output : left ≡ w → count ≡ f .splits + 1 → unit ≡ recordBytes ipv4 → chosen ≡ noRoute → length o₂ ≡ length o
+          kept-output full is u no-route = kept-so s₁ f (at-width full) count is chosen no-route o (room-for u) o₂ at puts
+
+          pub wrote : (s₂ : List ℕ) → s₂ ≡ zeros (length s₁) → left ≡ w → count ≡ f .splits + 1 → unit ≡ recordBytes ipv4 → chosen ≡ noRoute
+              → Writes m s o s₂ o₂ (Table count)
+          wrote s₂ cleared full is u no-route = wrote-so s₁ f (at-width full) count is chosen no-route o (room-for u) s₂ o₂ at puts cleared

@@ -11,7 +11,8 @@ has-requires c κs = search needs
 
 returns : tie.Need-returns
 returns c =
-    enters-none _ _ _ _ _ _ _ _ (c .before .has .ensures) (c .if1 .taken) _ refl refl
+    let entry = c .before .before .before in
+    enters-none _ _ _ _ (entry .args .chosen) _ _ _ (c .before .has .ensures) (c .if1 .taken) _ refl refl
 
 least-requires : tie.Need-least-requires
 least-requires c κs = search needs
@@ -27,7 +28,7 @@ put-record-requires c κs =
     let at-if1 = c .before .before in
     let at-has = at-if1 .before in
     let entry = at-has .before .before in
-    can-print _ _ _ _ _ _ _ _ (at-has .has .ensures) (at-if1 .if1 .left) _ (c .before .least .ensures) (entry .pre .0)
+    can-print _ _ _ _ (entry .args .chosen) _ _ _ (at-has .has .ensures) (at-if1 .if1 .left) _ (c .before .least .ensures) (entry .pre .0)
 
 add-t13 : tie.Need-add-t13
 add-t13 c = search needs
@@ -44,7 +45,8 @@ returns-2 c =
     let at-least = at-put-record .before .before in
     let at-if1 = at-least .before in
     let at-has = at-if1 .before in
-    enters-one _ _ _ _ _ _ _ _ (at-has .has .ensures) (at-if1 .if1 .left) _ (at-least .least .ensures) _ _ (at-put-record .put-record .ensures) refl (omega arith)
+    let entry = c .before .before .before .before .before .before .before .before in
+    enters-one _ _ _ _ (entry .args .chosen) _ _ _ (at-has .has .ensures) (at-if1 .if1 .left) _ (at-least .least .ensures) _ _ (at-put-record .put-record .ensures) refl (omega arith)
 
 pub enter-spec : {M : Type 1} → statement M
 enter-spec =

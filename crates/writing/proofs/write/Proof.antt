@@ -1,4 +1,5 @@
 -- Each end of the call is one law of proofs/Steps.
+use mathlib.Core.Path.{refl}
 use native.Mathlib.Omega.{arith}
 use Rattle.writing.proofs.Steps.{kept-length, refuse-scratch, refuse-lent, refuse-default, begun, can-form, few-splits, refuse-short, can-write, kept-output, wrote}
 use borrow.Author.Needs.{needs}
@@ -7,7 +8,7 @@ use Rattle.writing.proofs.write.Tie as tie
 
 returns : tie.Need-returns
 returns c =
-    refuse-scratch _ _ _ (c .if1 .taken)
+    refuse-scratch _ _ _ _ _ (c .if1 .taken) refl refl
 
 fault-requires : tie.Need-fault-requires
 fault-requires c κs = search needs
@@ -61,7 +62,7 @@ add-count c =
     let at-fault = at-if2 .before in
     let at-if1 = at-fault .before in
     let checks = begun _ _ (at-if1 .if1 .left) _ (at-fault .fault .ensures) (at-if2 .if2 .left) (at-holds .holds .ensures) (at-if3 .if3 .left) _ (at-hop-or .hop-or .ensures) in
-    record { fits = omega (arith, few-splits _ _ _ checks _ _ (at-form-sets .form-sets .ensures), checks .whole .shaped .few) }
+    record { fits = omega (arith, few-splits _ _ _ checks _ _ _ (at-form-sets .form-sets .ensures) refl, checks .whole .shaped .few) }
 
 clear-requires : tie.Need-clear-requires
 clear-requires c κs = search needs
@@ -84,7 +85,7 @@ returns-4 c =
     let at-fault = at-if2 .before in
     let at-if1 = at-fault .before in
     let checks = begun _ _ (at-if1 .if1 .left) _ (at-fault .fault .ensures) (at-if2 .if2 .left) (at-holds .holds .ensures) (at-if3 .if3 .left) _ (at-hop-or .hop-or .ensures) in
-    refuse-short _ _ _ checks _ _ (at-form-sets .form-sets .ensures) _ _ (at-clear .clear .ensures) (at-if4 .if4 .taken)
+    refuse-short _ _ _ checks _ _ _ (at-form-sets .form-sets .ensures) _ _ _ _ (at-clear .clear .ensures) (at-if4 .if4 .taken) refl refl refl
 
 write-entries-requires : tie.Need-write-entries-requires
 write-entries-requires c κs =
@@ -97,7 +98,7 @@ write-entries-requires c κs =
     let at-fault = at-if2 .before in
     let at-if1 = at-fault .before in
     let checks = begun _ _ (at-if1 .if1 .left) _ (at-fault .fault .ensures) (at-if2 .if2 .left) (at-holds .holds .ensures) (at-if3 .if3 .left) _ (at-hop-or .hop-or .ensures) in
-    can-write _ _ _ checks _ _ (at-form-sets .form-sets .ensures) _ (at-if4 .if4 .left)
+    can-write _ _ _ checks _ _ _ (at-form-sets .form-sets .ensures) _ _ _ (at-if4 .if4 .left) _ refl refl refl refl
 
 clear-requires-2 : tie.Need-clear-requires-2
 clear-requires-2 c κs = search needs
@@ -120,7 +121,7 @@ same-length-3 c =
     let at-fault = at-if2 .before in
     let at-if1 = at-fault .before in
     let checks = begun _ _ (at-if1 .if1 .left) _ (at-fault .fault .ensures) (at-if2 .if2 .left) (at-holds .holds .ensures) (at-if3 .if3 .left) _ (at-hop-or .hop-or .ensures) in
-    kept-output _ _ _ checks _ _ (at-form-sets .form-sets .ensures) _ (at-if4 .if4 .left) _ _ (at-write-entries .write-entries .ensures)
+    kept-output _ _ _ checks _ _ _ (at-form-sets .form-sets .ensures) _ _ _ (at-if4 .if4 .left) _ _ _ (at-write-entries .write-entries .ensures) refl refl refl refl
 
 returns-5 : tie.Need-returns-5
 returns-5 c =
@@ -135,7 +136,7 @@ returns-5 c =
     let at-fault = at-if2 .before in
     let at-if1 = at-fault .before in
     let checks = begun _ _ (at-if1 .if1 .left) _ (at-fault .fault .ensures) (at-if2 .if2 .left) (at-holds .holds .ensures) (at-if3 .if3 .left) _ (at-hop-or .hop-or .ensures) in
-    wrote _ _ _ checks _ _ (at-form-sets .form-sets .ensures) _ (at-if4 .if4 .left) _ _ _ (at-write-entries .write-entries .ensures) (at-clear2 .clear2 .ensures)
+    wrote _ _ _ checks _ _ _ (at-form-sets .form-sets .ensures) _ _ _ (at-if4 .if4 .left) _ _ _ (at-write-entries .write-entries .ensures) _ (at-clear2 .clear2 .ensures) refl refl refl refl
 
 pub write-spec : {M : Type 1} → statement M
 write-spec =
