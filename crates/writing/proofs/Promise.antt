@@ -21,7 +21,7 @@ use Rattle.lent.specs.Lent.{badLent, lentFault}
 use Rattle.lent.proofs.Faults.{of-good, let-through, holds-of}
 use Rattle.writing.specs.declared.Wrote.{Wrote}
 use Rattle.writing.specs.declared.Wrote.the-variants.{Table, Refused}
-use Rattle.writing.specs.Promise.{outcomeOf, bytesFor, intoOutput, writtenInto, writeFault, writeAfter, writeOf, Writes}
+use Rattle.writing.specs.Promise.{Outcome, outcomeOf, bytesFor, intoOutput, writtenInto, writeFault, writeAfter, writeOf, Writes}
 
 -- ONE ANSWER, and one scratch and one output beside it
 abbrev pub Same : Wrote → List ℕ → List ℕ → Wrote → List ℕ → List ℕ → Type 0
@@ -40,6 +40,17 @@ module _ (m : Memory) (scratch output : List ℕ) where
   pub one-answer : (s₁ o₁ s₂ o₂ : List ℕ) (r₁ r₂ : Wrote) → Writes m scratch output s₁ o₁ r₁ → Writes m scratch output s₂ o₂ r₂
       → Same r₁ s₁ o₁ r₂ s₂ o₂
   one-answer s₁ o₁ s₂ o₂ r₁ r₂ one other = same-outcome r₁ r₂ s₁ o₁ s₂ o₂ (one .outcome ∙ sym (other .outcome))
+
+-- and there is one: whatever is lent, some answer meets the promise
+answer-of : (w : Outcome) (f : Option ℕ) → w .refusal ≡ f → (r : Wrote) × (outcomeOf r (w .scratch) (w .output) ≡ w)
+answer-of w none e = (Table (w .count), λ i. record { refusal = sym e i; count = w .count; scratch = w .scratch; output = w .output })
+answer-of w (some x) e = (Refused x (w .count), λ i. record { refusal = sym e i; count = w .count; scratch = w .scratch; output = w .output })
+
+pub some-answer : (m : Memory) (scratch output : List ℕ)
+    → (r : Wrote) × Writes m scratch output (writeOf m scratch output .scratch) (writeOf m scratch output .output) r
+some-answer m scratch output =
+    let found = answer-of (writeOf m scratch output) (writeOf m scratch output .refusal) refl in
+    (found .0, record { outcome = found .1 })
 
 -- What is decided before the output's room is looked at, and of the scratch only its length: a refusal that changes nothing, or
 -- the table.
