@@ -8,7 +8,7 @@ use mathlib.Core.Option.{Option, none, some}
 use Prim.Native.Nat.{ℕ, _≤_, _<_}
 use native.Mathlib.Omega.{arith}
 use lib.Dec.{ltb}
-use lib.ListN.{length, drop}
+use lib.ListN.{length, drop, length-append, length-drop, length-replicate}
 use borrow.Author.Tests.{ltb-true, ltb-false, lt-ltb, le-ltb, eq-eqb, ne-eqb}
 use Rattle.theory.specs.Ledger.{Entry, isHeld}
 use Rattle.theory.proofs.Hops.{by-test, or-right}
@@ -16,6 +16,7 @@ use Rattle.theory.proofs.Longest.{none-some}
 use Rattle.rules.specs.Numbers.{ipv4, width, badSlices, noLedger, noDefault, shortOutput}
 use Rattle.rules.specs.Records.{printTable}
 use Rattle.rules.specs.Writing.{Written, writes, refuses, smallestTable, written}
+use Rattle.rules.proofs.Records.{table-length}
 use Rattle.memory.specs.Layout.{Memory, slots, ledgerOf, holdsLedger, zeros}
 use Rattle.lent.specs.Lent.{badLent, lentFault}
 use Rattle.lent.proofs.Faults.{of-good, let-through, holds-of}
@@ -51,6 +52,44 @@ pub some-answer : (m : Memory) (scratch output : List ℕ)
 some-answer m scratch output =
     let found = answer-of (writeOf m scratch output) (writeOf m scratch output .refusal) refl in
     (found .0, record { outcome = found .1 })
+
+beside : (r : Wrote) (s o : List ℕ) → (outcomeOf r s o .scratch ≡ s) × (outcomeOf r s o .output ≡ o)
+beside (Table c) s o = (refl, refl)
+beside (Refused x c) s o = (refl, refl)
+
+-- LENGTHS STAY, whatever comes of the call
+pub lengths-stay : (m : Memory) (scratch output scratch' output' : List ℕ) (r : Wrote) → Writes m scratch output scratch' output' r
+    → (length scratch' ≡ length scratch) × (length output' ≡ length output)
+unfolding writeOf
+lengths-stay m scratch output scratch' output' r meets =
+    let kept = after (writeFault m scratch) in
+    let left = beside r scratch' output' in (
+      ap length (sym (left .0)) ∙ ap (λ w. length (w .scratch)) (meets .outcome) ∙ kept .0,
+      ap length (sym (left .1)) ∙ ap (λ w. length (w .output)) (meets .outcome) ∙ kept .1,
+    )
+  where
+    Kept : Outcome → Type 0
+    Kept w = (length (w .scratch) ≡ length scratch) × (length (w .output) ≡ length output)
+
+    table : (T : List Entry) → Kept (intoOutput T scratch output)
+    table T =
+        elim (by-test (ltb (length output) (bytesFor T))) [
+          | inl short ↦ rw short (length-replicate (length scratch) 0, refl)
+          | inr fits ↦
+              rw fits (
+                length-replicate (length scratch) 0,
+                length-append (printTable ipv4 T) (drop (bytesFor T) output)
+                    ∙ omega (arith, table-length ipv4 T, length-drop (bytesFor T) output, ltb-false (length output) (bytesFor T) fits),
+              )
+        ]
+
+    into : (w : Written) → Kept (writtenInto w scratch output)
+    into (writes T) = table T
+    into (refuses x) = (refl, refl)
+
+    after : (f : Option ℕ) → Kept (writeAfter f m scratch output)
+    after none = into (written ipv4 (ledgerOf (width ipv4) m))
+    after (some x) = (refl, refl)
 
 -- What is decided before the output's room is looked at, and of the scratch only its length: a refusal that changes nothing, or
 -- the table.

@@ -9,7 +9,7 @@ use native.Mathlib.Omega.{arith}
 use native.Mathlib.Nat.{zero-div}
 use native.Mathlib.Numerals.{add-one}
 use lib.Dec.{ltb}
-use lib.ListN.{length, getD, drop, length-replicate}
+use lib.ListN.{length, getD, drop}
 use borrow.Author.Tests.{eq-eqb, lt-ltb, le-ltb, not-false}
 use Rattle.theory.specs.Hops.{only}
 use Rattle.theory.specs.Ledger.{Ledger, Entry, isHeld, orElse}
@@ -21,10 +21,11 @@ use Rattle.theory.proofs.Fewest.{splits}
 use Rattle.rules.specs.Numbers.{ipv4, width, recordBytes, hopBound, noRoute, badSlices, noDefault, shortOutput}
 use Rattle.rules.specs.Records.{printTable}
 use Rattle.rules.specs.Writing.{smallestTable, written}
+use Rattle.rules.proofs.Records.{table-length}
 use Rattle.rules.proofs.Smallest.{count-splits}
 use Rattle.memory.specs.declared.Path.{Path}
 use Rattle.memory.specs.Path.{pathBit}
-use Rattle.memory.specs.Layout.{Memory, slots, Whole, hopAt, ledgerOf, zeros}
+use Rattle.memory.specs.Layout.{Memory, slots, hopAt, ledgerOf, zeros}
 use Rattle.memory.proofs.Ledger.{read-range, ledger-at, within-rules}
 use Rattle.lent.specs.Lent.{badLent, lentFault, FaultOf}
 use Rattle.printing.specs.Printing.{patch, ClearFrom}
@@ -35,9 +36,10 @@ use Rattle.squeezing.specs.Stored.{CanForm, Forms}
 use Rattle.squeezing.specs.Entries.{tableBelow, bytesBelow, Room, Puts, stringOf, CanWrite}
 use Rattle.squeezing.proofs.Below.{ledger-below}
 use Rattle.squeezing.proofs.Forming.{splits-room}
-use Rattle.squeezing.proofs.Entering.{bytes-top, bytes-length, puts-length}
+use Rattle.squeezing.proofs.Entering.{bytes-top}
 use Rattle.writing.specs.declared.Wrote.the-variants.{Table, Refused}
 use Rattle.writing.specs.Promise.{outcomeOf, bytesFor, writtenInto, writeFault, writeAfter, writeOf, Writes}
+use Rattle.writing.specs.Steps.{Begun}
 use Rattle.writing.proofs.Promise.{fault-slices, fault-none}
 
 -- a scratch of the asked length leaves the rules of the lent slices
@@ -48,10 +50,6 @@ same-fault m s same x e =
       | inl bad ↦ rw bad (rw bad at e)
       | inr good ↦ rw (good, eq-eqb (length s) (slots (m .tree)) same) (rw good at e)
     ]
-
-pub kept-length : (m : Memory) (s : List ℕ) (p w d : ℕ) (s₁ : List ℕ) (f : Formed) → Forms m s p w d s₁ f → (s₂ : List ℕ)
-    → s₂ ≡ zeros (length s₁) → length s₂ ≡ length s
-kept-length m s p w d s₁ f forms s₂ cleared = ap length cleared ∙ length-replicate (length s₁) 0 ∙ forms .same-length
 
 -- an empty path is clear
 pub clear-path : (w : ℕ) → ClearFrom (record { high = 0; low = 0 }) 0 w
@@ -67,13 +65,6 @@ counted-at : (k : ℕ) (m : Memory) (F : Leaves) (n : ℕ) → F ≡ leaves only
     → isHeld (ledgerOf (width k) m []) ≡ true → n ≡ splits hopBound (width k) F → n + 1 ≡ length (smallestTable k (ledgerOf (width k) m))
 counted-at k m F n is held e =
     add-one n ∙ ap suc (e ∙ ap (splits hopBound (width k)) is) ∙ sym (count-splits k (ledgerOf (width k) m) (within-rules (width k) m) held)
-
--- what the checks have found once writing begins: d is the default route's hop
-pub record Begun (m : Memory) (s : List ℕ) (d : ℕ) : Type 0 where
-  pub sized : length s ≡ slots (m .tree)
-  pub fine : lentFault m ≡ none
-  pub whole : Whole m
-  pub first : hopAt m 0 ≡ some d
 
 module _ (m : Memory) (s : List ℕ) where
   abbrev w : ℕ
@@ -182,15 +173,11 @@ module _ (m : Memory) (s : List ℕ) where
           abbrev PutsAll : ℕ → List ℕ → Type 0
           PutsAll at o₂ = Puts ipv4 (stringOf ipv4 w top) (tableBelow w m 0 d chosen) 0 o at o₂
 
-          kept-so : (o₂ : List ℕ) (at : ℕ) → PutsAll at o₂ → length o₂ ≡ length o
-          kept-so o₂ at puts = puts-length ipv4 puts (can-so .room)
-
           wrote-so : (s₂ o₂ : List ℕ) (at : ℕ) → PutsAll at o₂ → s₂ ≡ zeros (length s₁) → Writes m s o s₂ o₂ (Table count)
           wrote-so s₂ o₂ at puts cleared =
               let bytes : bytesBelow ipv4 [] (tableBelow w m 0 d chosen) ≡ printTable ipv4 T = ap (bytesBelow ipv4 []) all ∙ bytes-top ipv4 T in
-              let size : length (printTable ipv4 T) ≡ bytesFor T = ap length (sym (bytes-top ipv4 T)) ∙ bytes-length ipv4 [] T in
               let after : o₂ ≡ printTable ipv4 T ++ drop (bytesFor T) o =
-              puts .bytes ∙ ap (λ l. patch 0 l o) bytes ∙ patch-front (printTable ipv4 T) o ∙ ap (λ k. printTable ipv4 T ++ drop k o) size in
+              puts .bytes ∙ ap (λ l. patch 0 l o) bytes ∙ patch-front (printTable ipv4 T) o ∙ ap (λ k. printTable ipv4 T ++ drop k o) (table-length ipv4 T) in
               record {
                 outcome =
                     (λ i. outcomeOf (Table (counted i)) (zero-scratch s₂ cleared i) (after i))
@@ -221,11 +208,9 @@ module _ (m : Memory) (s : List ℕ) where
             → CanWrite m s₁ ipv4 0 w d chosen 0 (record { high = 0; low = 0 }) o
         can-write chosen full is u no-route = can-so s₁ f (at-width full) count is chosen no-route o (room-for u)
 
-        module _ (chosen at : ℕ) (o₂ : List ℕ)
-            (puts : Puts ipv4 (stringOf ipv4 w (record { high = 0; low = 0 })) (tableBelow w m 0 d chosen) 0 o at o₂) where
-          pub kept-output : left ≡ w → count ≡ f .splits + 1 → unit ≡ recordBytes ipv4 → chosen ≡ noRoute → length o₂ ≡ length o
-          kept-output full is u no-route = kept-so s₁ f (at-width full) count is chosen no-route o (room-for u) o₂ at puts
-
-          pub wrote : (s₂ : List ℕ) → s₂ ≡ zeros (length s₁) → left ≡ w → count ≡ f .splits + 1 → unit ≡ recordBytes ipv4 → chosen ≡ noRoute
-              → Writes m s o s₂ o₂ (Table count)
-          wrote s₂ cleared full is u no-route = wrote-so s₁ f (at-width full) count is chosen no-route o (room-for u) s₂ o₂ at puts cleared
+        pub wrote : (chosen at : ℕ) (o₂ : List ℕ)
+            → Puts ipv4 (stringOf ipv4 w (record { high = 0; low = 0 })) (tableBelow w m 0 d chosen) 0 o at o₂ → (s₂ : List ℕ)
+            → s₂ ≡ zeros (length s₁) → left ≡ w → count ≡ f .splits + 1 → unit ≡ recordBytes ipv4 → chosen ≡ noRoute
+            → Writes m s o s₂ o₂ (Table count)
+        wrote chosen at o₂ puts s₂ cleared full is u no-route =
+            wrote-so s₁ f (at-width full) count is chosen no-route o (room-for u) s₂ o₂ at puts cleared

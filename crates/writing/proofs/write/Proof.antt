@@ -1,7 +1,7 @@
--- Each end of the call is one law of proofs/Steps.
+-- The checks in order, each refusal one law of proofs/Steps; the rest is squeeze's.
 use mathlib.Core.Path.{refl}
 use native.Mathlib.Omega.{arith}
-use Rattle.writing.proofs.Steps.{kept-length, refuse-scratch, refuse-lent, refuse-default, begun, can-form, few-splits, refuse-short, can-write, kept-output, wrote}
+use Rattle.writing.proofs.Steps.{refuse-scratch, refuse-lent, refuse-default, begun}
 use borrow.Author.Needs.{needs}
 use Rattle.writing.proofs.write.Statement.{statement}
 use Rattle.writing.proofs.write.Tie as tie
@@ -42,101 +42,24 @@ shared-slice-read-hop-or c =
 hop-or-requires : tie.Need-hop-or-requires
 hop-or-requires c κs = search needs
 
-form-sets-requires : tie.Need-form-sets-requires
-form-sets-requires c κs =
-    let at-if3 = c .before .before .before in
-    let at-holds = at-if3 .before in
-    let at-if2 = at-holds .before .before in
-    let at-fault = at-if2 .before in
-    let at-if1 = at-fault .before in
-    let checks = begun _ _ (at-if1 .if1 .left) _ (at-fault .fault .ensures) (at-if2 .if2 .left) (at-holds .holds .ensures) (at-if3 .if3 .left) _ (c .before .hop-or .ensures) in
-    can-form _ _ _ checks
-
-add-count : tie.Need-add-count
-add-count c =
-    let at-form-sets = c .before .before .before in
-    let at-hop-or = at-form-sets .before .before in
+squeeze-requires : tie.Need-squeeze-requires
+squeeze-requires c κs =
+    let at-hop-or = c .before .before in
     let at-if3 = at-hop-or .before .before in
     let at-holds = at-if3 .before in
     let at-if2 = at-holds .before .before in
     let at-fault = at-if2 .before in
     let at-if1 = at-fault .before in
-    let checks = begun _ _ (at-if1 .if1 .left) _ (at-fault .fault .ensures) (at-if2 .if2 .left) (at-holds .holds .ensures) (at-if3 .if3 .left) _ (at-hop-or .hop-or .ensures) in
-    record { fits = omega (arith, few-splits _ _ _ checks _ _ _ (at-form-sets .form-sets .ensures) refl, checks .whole .shaped .few) }
-
-clear-requires : tie.Need-clear-requires
-clear-requires c κs = search needs
+    begun _ _ (at-if1 .if1 .left) _ (at-fault .fault .ensures) (at-if2 .if2 .left) (at-holds .holds .ensures) (at-if3 .if3 .left) _ (at-hop-or .hop-or .ensures)
 
 same-length : tie.Need-same-length
-same-length c =
-    let at-clear = c .before .before in
-    let at-form-sets = at-clear .before .before .before .before .before .before in
-    kept-length _ _ _ _ _ _ _ (at-form-sets .form-sets .ensures) _ (at-clear .clear .ensures)
-
-returns-4 : tie.Need-returns-4
-returns-4 c =
-    let at-clear = c .before .before in
-    let at-if4 = at-clear .before .before in
-    let at-form-sets = at-if4 .before .before .before .before in
-    let at-hop-or = at-form-sets .before .before in
-    let at-if3 = at-hop-or .before .before in
-    let at-holds = at-if3 .before in
-    let at-if2 = at-holds .before .before in
-    let at-fault = at-if2 .before in
-    let at-if1 = at-fault .before in
-    let checks = begun _ _ (at-if1 .if1 .left) _ (at-fault .fault .ensures) (at-if2 .if2 .left) (at-holds .holds .ensures) (at-if3 .if3 .left) _ (at-hop-or .hop-or .ensures) in
-    refuse-short _ _ _ checks _ _ _ (at-form-sets .form-sets .ensures) _ _ _ _ (at-clear .clear .ensures) (at-if4 .if4 .taken) refl refl refl
-
-write-entries-requires : tie.Need-write-entries-requires
-write-entries-requires c κs =
-    let at-if4 = c .before .before in
-    let at-form-sets = at-if4 .before .before .before .before in
-    let at-hop-or = at-form-sets .before .before in
-    let at-if3 = at-hop-or .before .before in
-    let at-holds = at-if3 .before in
-    let at-if2 = at-holds .before .before in
-    let at-fault = at-if2 .before in
-    let at-if1 = at-fault .before in
-    let checks = begun _ _ (at-if1 .if1 .left) _ (at-fault .fault .ensures) (at-if2 .if2 .left) (at-holds .holds .ensures) (at-if3 .if3 .left) _ (at-hop-or .hop-or .ensures) in
-    can-write _ _ _ checks _ _ _ (at-form-sets .form-sets .ensures) _ _ _ (at-if4 .if4 .left) _ refl refl refl refl
-
-clear-requires-2 : tie.Need-clear-requires-2
-clear-requires-2 c κs = search needs
+same-length c = search needs
 
 same-length-2 : tie.Need-same-length-2
-same-length-2 c =
-    let at-clear2 = c .before .before in
-    let at-form-sets = at-clear2 .before .before .before .before .before .before .before .before .before .before .before in
-    kept-length _ _ _ _ _ _ _ (at-form-sets .form-sets .ensures) _ (at-clear2 .clear2 .ensures)
+same-length-2 c = search needs
 
-same-length-3 : tie.Need-same-length-3
-same-length-3 c =
-    let at-write-entries = c .before .before .before .before .before .before in
-    let at-if4 = at-write-entries .before .before .before in
-    let at-form-sets = at-if4 .before .before .before .before in
-    let at-hop-or = at-form-sets .before .before in
-    let at-if3 = at-hop-or .before .before in
-    let at-holds = at-if3 .before in
-    let at-if2 = at-holds .before .before in
-    let at-fault = at-if2 .before in
-    let at-if1 = at-fault .before in
-    let checks = begun _ _ (at-if1 .if1 .left) _ (at-fault .fault .ensures) (at-if2 .if2 .left) (at-holds .holds .ensures) (at-if3 .if3 .left) _ (at-hop-or .hop-or .ensures) in
-    kept-output _ _ _ checks _ _ _ (at-form-sets .form-sets .ensures) _ _ _ (at-if4 .if4 .left) _ _ _ (at-write-entries .write-entries .ensures) refl refl refl refl
-
-returns-5 : tie.Need-returns-5
-returns-5 c =
-    let at-clear2 = c .before .before in
-    let at-write-entries = at-clear2 .before .before .before .before in
-    let at-if4 = at-write-entries .before .before .before in
-    let at-form-sets = at-if4 .before .before .before .before in
-    let at-hop-or = at-form-sets .before .before in
-    let at-if3 = at-hop-or .before .before in
-    let at-holds = at-if3 .before in
-    let at-if2 = at-holds .before .before in
-    let at-fault = at-if2 .before in
-    let at-if1 = at-fault .before in
-    let checks = begun _ _ (at-if1 .if1 .left) _ (at-fault .fault .ensures) (at-if2 .if2 .left) (at-holds .holds .ensures) (at-if3 .if3 .left) _ (at-hop-or .hop-or .ensures) in
-    wrote _ _ _ checks _ _ _ (at-form-sets .form-sets .ensures) _ _ _ (at-if4 .if4 .left) _ _ _ (at-write-entries .write-entries .ensures) _ (at-clear2 .clear2 .ensures) refl refl refl refl
+returns-4 : tie.Need-returns-4
+returns-4 c = search needs
 
 pub write-spec : {M : Type 1} → statement M
 write-spec =
@@ -150,13 +73,7 @@ write-spec =
     returns-3
     shared-slice-read-hop-or
     hop-or-requires
-    form-sets-requires
-    add-count
-    clear-requires
+    squeeze-requires
     same-length
-    returns-4
-    write-entries-requires
-    clear-requires-2
     same-length-2
-    same-length-3
-    returns-5)
+    returns-4)
