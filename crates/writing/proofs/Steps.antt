@@ -13,11 +13,10 @@ use lib.ListN.{length, getD, drop}
 use borrow.Author.Tests.{eq-eqb, lt-ltb, le-ltb, not-false}
 use Rattle.theory.specs.Hops.{only}
 use Rattle.theory.specs.Ledger.{Ledger, Entry, isHeld, orElse}
-use Rattle.theory.specs.Smallest.{Leaves, table}
+use Rattle.theory.specs.Smallest.{Leaves, table, splits}
 use Rattle.theory.specs.Theorem.{leaves}
 use Rattle.theory.proofs.Hops.{by-test, never, not-true}
 use Rattle.theory.proofs.Longest.{longest-default}
-use Rattle.theory.proofs.Fewest.{splits}
 use Rattle.rules.specs.Numbers.{ipv4, width, recordBytes, hopBound, noRoute, badSlices, noDefault, shortOutput}
 use Rattle.rules.specs.Records.{printTable}
 use Rattle.rules.specs.Writing.{smallestTable, written}
