@@ -4,7 +4,7 @@ use mathlib.Core.Path.{_≡_, refl, sym, ap, _∙_, subst}
 use mathlib.Core.Bool.{true, false, cond}
 use mathlib.Core.List.{List, [], _∷_}
 use mathlib.Core.Option.{Option, none, some}
-use Prim.Native.Nat.{ℕ, _≤_, _<_, _^_}
+use Prim.Native.Nat.{ℕ, suc, _+_, _≤_, _<_, _^_}
 use native.Mathlib.Omega.{arith}
 use lib.ListN.{length}
 use borrow.Author.Tests.{ne-eqb}
@@ -16,6 +16,7 @@ use Rattle.theory.specs.Theorem.{leaves, AllAllowed}
 use Rattle.theory.proofs.Hops.{never, only-allowed, only-one, only-self}
 use Rattle.theory.proofs.Longest.{longest-keeps, longest-default}
 use Rattle.theory.proofs.Sets.{set-avoids}
+use Rattle.theory.proofs.Fewest.{splits, table-count}
 use Rattle.theory.proofs.Agrees.{table-top}
 use Rattle.theory.proofs.Order.{HopNot, avoids}
 use Rattle.theory.proofs.Address.{address-below, bits-length, bits-address}
@@ -66,6 +67,14 @@ module _ (k : ℕ) (L : Ledger ℕ) (ok : WithinRules (width k) L) where
 
     not-none : (a : Bits) → length a ≡ width k → leaves only L noRoute a noRoute ≡ false
     not-none a e = ne-eqb noRoute (longest L noRoute a) (let h = hop-low a in omega arith)
+
+    -- its count: one more than the strings whose children's sets are apart
+    pub count-splits : length (smallestTable k L) ≡ suc (splits hopBound (width k) (leaves only L noRoute))
+    unfolding smallestTable
+    count-splits =
+        table-count hopBound (width k) (leaves only L noRoute) noRoute allowed
+        ∙ ap (λ b. cond b 0 1 + splits hopBound (width k) (leaves only L noRoute)) (set-avoids hopBound (width k) (leaves only L noRoute) noRoute not-none)
+        ∙ omega arith
 
     real : (es : List Entry) → Each (HopNot noRoute) es → Each RealHop es
     real [] p = tt

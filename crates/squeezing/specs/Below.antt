@@ -1,7 +1,6 @@
 -- WHAT LIES BELOW A SLOT: the ledger of the strings behind its own, their leaves and their sets. A walk down uses up one of
 -- the bits that are left, so all of it is said over their number w, and nothing here knows how long an address is.
 use mathlib.Core.Path.{_≡_}
-use mathlib.Core.Bool.{Bool}
 use mathlib.Core.List.{[], _∷_}
 use mathlib.Core.Option.{Option, none}
 use Prim.Native.Nat.{ℕ, zero, suc, _≤_}

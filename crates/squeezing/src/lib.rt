@@ -49,11 +49,11 @@ pub fn form_sets(
         };
     }
     let here = memory::hop_or(hop[slot], above);
+    let own = sets::only(here);
     if left == 0 {
-        let full = sets::only(here);
-        scratch[slot] = full;
+        scratch[slot] = own;
         return Formed {
-            set: full,
+            set: own,
             splits: 0,
         };
     }

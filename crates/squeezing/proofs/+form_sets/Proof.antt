@@ -2,7 +2,6 @@
 use mathlib.Core.Path.{refl}
 use Prim.Native.Nat.{ℕ, _<_}
 use native.Mathlib.Omega.{arith}
-use lib.ListN.{length-set}
 use mathlib.Core.Bool.{true, false}
 use borrow.Author.Needs.{needs}
 use Rattle.memory.proofs.Find.{not-none}
@@ -33,122 +32,98 @@ form-sets-below t =
 abbrev said : ℕ → form-sets-lts.Claims
 said t = (only-reads.Asked, only-reads.Learnt, hop-or-reads.Asked, hop-or-reads.Learnt, child-of-reads.Asked, child-of-reads.Learnt, form-sets-below t, form-sets.Post, join-reads.Asked, join-reads.Learnt, split-reads.Asked, split-reads.Learnt)
 
--- src/lib.rt:43:18
 form-sets-only-requires : (t : ℕ) → form-sets-lts.Need-only-requires (said t) (form-sets-at t) form-sets.Post
 form-sets-only-requires t c κs =
     c .before .before .before .before .before .before .pre .1 .hop
 
--- src/lib.rt:42:9
 form-sets-returns : (t : ℕ) → form-sets-lts.Need-returns (said t) (form-sets-at t) form-sets.Post
 form-sets-returns t c =
     form-none _ (c .before .before .before .before .before .before .before .pre .1 .whole) _ _ _ _ _ (c .before .before .before .before .before .before .before .pre .1 .hop) (c .before .if1 .taken) (c .only .ensures) refl
 
--- src/lib.rt:47:31
 form-sets-mul-hop-or : (t : ℕ) → form-sets-lts.Need-mul-hop-or (said t) (form-sets-at t) form-sets.Post
 form-sets-mul-hop-or t c =
     record { fits = omega (arith, c .if1 .left, c .before .before .before .before .before .before .pre .1 .whole .shaped .few) }
 
--- src/lib.rt:47:31
 form-sets-shared-slice-read-hop-or : (t : ℕ) → form-sets-lts.Need-shared-slice-read-hop-or (said t) (form-sets-at t) form-sets.Post
 form-sets-shared-slice-read-hop-or t c =
     omega (arith, c .before .if1 .left, c .before .before .before .before .before .before .before .pre .1 .whole .hops)
 
--- src/lib.rt:47:9
 form-sets-hop-or-requires : (t : ℕ) → form-sets-lts.Need-hop-or-requires (said t) (form-sets-at t) form-sets.Post
 form-sets-hop-or-requires t c κs =
     search needs
 
--- src/lib.rt:49:13
 form-sets-only-requires-2 : (t : ℕ) → form-sets-lts.Need-only-requires-2 (said t) (form-sets-at t) form-sets.Post
 form-sets-only-requires-2 t c κs =
-    in-range _ (c .before .before .before .before .before .before .before .before .before .pre .1) (c .before .hop-or .ensures)
+    in-range _ (c .before .before .before .before .before .before .before .before .pre .1) (c .hop-or .ensures)
 
--- src/lib.rt:50:9
 form-sets-mul-scratch : (t : ℕ) → form-sets-lts.Need-mul-scratch (said t) (form-sets-at t) form-sets.Post
 form-sets-mul-scratch t c =
     record { fits = omega (arith, c .before .before .before .before .if1 .left, c .before .before .before .before .before .before .before .before .before .before .pre .1 .whole .shaped .few) }
 
--- src/lib.rt:50:9
 form-sets-slice-write-scratch : (t : ℕ) → form-sets-lts.Need-slice-write-scratch (said t) (form-sets-at t) form-sets.Post
 form-sets-slice-write-scratch t c =
     omega (arith, c .before .before .before .before .if1 .left, c .before .before .before .before .before .before .before .before .before .before .pre .1 .sized)
 
--- src/lib.rt:51:9
 form-sets-same-length : (t : ℕ) → form-sets-lts.Need-same-length (said t) (form-sets-at t) form-sets.Post
 form-sets-same-length t c =
     search needs
 
--- src/lib.rt:51:9
 form-sets-returns-2 : (t : ℕ) → form-sets-lts.Need-returns-2 (said t) (form-sets-at t) form-sets.Post
 form-sets-returns-2 t c =
-    form-full-at _ _ _ _ _ _ _ (c .before .before .before .before .before .before .before .before .before .before .pre .1 .sized) (c .before .before .before .before .if1 .left) (c .before .if2 .taken) (c .before .before .hop-or .ensures) (c .only2 .ensures) refl
+    form-full-at _ _ _ _ _ _ _ (c .before .before .before .before .before .before .before .before .before .before .pre .1 .sized) (c .before .before .before .before .if1 .left) (c .if2 .taken) (c .before .before .hop-or .ensures) (c .before .only2 .ensures) refl
 
--- src/lib.rt:56:52
 form-sets-child-of-requires : (t : ℕ) → form-sets-lts.Need-child-of-requires (said t) (form-sets-at t) form-sets.Post
 form-sets-child-of-requires t c κs =
-    (c .before .before .before .before .before .before .before .before .before .before .pre .1 .whole .shaped, c .before .before .before .before .if1 .left)
+    (c .before .before .before .before .before .before .before .before .before .before .before .pre .1 .whole .shaped, c .before .before .before .before .before .if1 .left)
 
--- src/lib.rt:56:95
 form-sets-sub-form-sets : (t : ℕ) → form-sets-lts.Need-sub-form-sets (said t) (form-sets-at t) form-sets.Post
 form-sets-sub-form-sets t c =
     not-none _ (c .before .before .if2 .left)
 
--- src/lib.rt:56:9
 form-sets-form-sets-requires : (t : ℕ) → form-sets-lts.Need-form-sets-requires (said t) (form-sets-at t) form-sets.Post
 form-sets-form-sets-requires t c κs =
-    (omega (arith, not-none _ (c .before .before .if2 .left), c .before .before .before .before .before .before .before .before .before .before .before .pre .0), can-child _ false (c .before .before .before .before .before .before .before .before .before .before .before .pre .1) refl (c .before .before .before .hop-or .ensures) (c .child-of .ensures))
+    (omega (arith, not-none _ (c .before .before .if2 .left), c .before .before .before .before .before .before .before .before .before .before .before .before .pre .0), can-child _ false (c .before .before .before .before .before .before .before .before .before .before .before .before .pre .1) refl (c .before .before .before .before .hop-or .ensures) (c .child-of .ensures))
 
--- src/lib.rt:57:51
 form-sets-child-of-requires-2 : (t : ℕ) → form-sets-lts.Need-child-of-requires-2 (said t) (form-sets-at t) form-sets.Post
 form-sets-child-of-requires-2 t c κs =
-    (c .before .before .before .before .before .before .before .before .before .before .before .before .before .before .before .pre .1 .whole .shaped, c .before .before .before .before .before .before .before .before .before .if1 .left)
+    (c .before .before .before .before .before .before .before .before .before .before .before .before .before .before .before .before .pre .1 .whole .shaped, c .before .before .before .before .before .before .before .before .before .before .if1 .left)
 
--- src/lib.rt:57:93
 form-sets-sub-form-sets-2 : (t : ℕ) → form-sets-lts.Need-sub-form-sets-2 (said t) (form-sets-at t) form-sets.Post
 form-sets-sub-form-sets-2 t c =
     not-none _ (c .before .before .before .before .before .before .before .if2 .left)
 
--- src/lib.rt:57:9
 form-sets-form-sets-requires-2 : (t : ℕ) → form-sets-lts.Need-form-sets-requires-2 (said t) (form-sets-at t) form-sets.Post
 form-sets-form-sets-requires-2 t c κs =
-    (omega (arith, not-none _ (c .before .before .before .before .before .before .before .if2 .left), c .before .before .before .before .before .before .before .before .before .before .before .before .before .before .before .before .pre .0), can-child _ true (c .before .before .before .before .before .before .before .before .before .before .before .before .before .before .before .before .pre .1) (c .before .before .before .before .form-sets .ensures .same-length) (c .before .before .before .before .before .before .before .before .hop-or .ensures) (c .child-of2 .ensures))
+    (omega (arith, not-none _ (c .before .before .before .before .before .before .before .if2 .left), c .before .before .before .before .before .before .before .before .before .before .before .before .before .before .before .before .before .pre .0), can-child _ true (c .before .before .before .before .before .before .before .before .before .before .before .before .before .before .before .before .before .pre .1) (c .before .before .before .before .form-sets .ensures .same-length) (c .before .before .before .before .before .before .before .before .before .hop-or .ensures) (c .child-of2 .ensures))
 
--- src/lib.rt:58:9
 form-sets-join-requires : (t : ℕ) → form-sets-lts.Need-join-requires (said t) (form-sets-at t) form-sets.Post
 form-sets-join-requires t c κs =
     search needs
 
--- src/lib.rt:59:5
 form-sets-mul-scratch-2 : (t : ℕ) → form-sets-lts.Need-mul-scratch-2 (said t) (form-sets-at t) form-sets.Post
 form-sets-mul-scratch-2 t c =
-    record { fits = omega (arith, c .before .before .before .before .before .before .before .before .before .before .before .before .before .before .if1 .left, c .before .before .before .before .before .before .before .before .before .before .before .before .before .before .before .before .before .before .before .before .pre .1 .whole .shaped .few) }
+    record { fits = omega (arith, c .before .before .before .before .before .before .before .before .before .before .before .before .before .before .before .if1 .left, c .before .before .before .before .before .before .before .before .before .before .before .before .before .before .before .before .before .before .before .before .before .pre .1 .whole .shaped .few) }
 
--- src/lib.rt:59:5
 form-sets-slice-write-scratch-2 : (t : ℕ) → form-sets-lts.Need-slice-write-scratch-2 (said t) (form-sets-at t) form-sets.Post
 form-sets-slice-write-scratch-2 t c =
-    omega (arith, c .before .before .before .before .before .before .before .before .before .before .before .before .before .before .if1 .left, c .before .before .before .before .before .before .before .before .before .before .before .before .before .before .before .before .before .before .before .before .pre .1 .sized, c .before .before .before .before .before .before .before .before .form-sets .ensures .same-length, c .before .before .before .form-sets2 .ensures .same-length)
+    omega (arith, c .before .before .before .before .before .before .before .before .before .before .before .before .before .before .before .if1 .left, c .before .before .before .before .before .before .before .before .before .before .before .before .before .before .before .before .before .before .before .before .before .pre .1 .sized, c .before .before .before .before .before .before .before .before .form-sets .ensures .same-length, c .before .before .before .form-sets2 .ensures .same-length)
 
--- src/lib.rt:62:17
 form-sets-add-t23 : (t : ℕ) → form-sets-lts.Need-add-t23 (said t) (form-sets-at t) form-sets.Post
 form-sets-add-t23 t c =
-    record { fits = omega (arith, form-sum _ _ _ _ _ _ _ _ _ _ _ (c .before .before .before .before .before .before .before .before .before .before .before .before .before .before .before .before .before .before .before .before .before .before .pre .1) (c .before .before .before .before .before .before .before .before .before .before .before .before .before .before .hop-or .ensures) (c .before .before .before .before .before .before .before .before .before .before .before .child-of .ensures) (c .before .before .before .before .before .before .child-of2 .ensures) _ (c .before .before .before .before .before .before .before .before .before .before .form-sets .ensures) (c .before .before .before .before .before .form-sets2 .ensures), c .before .before .before .before .before .before .before .before .before .before .before .before .before .before .before .before .before .before .before .before .before .before .pre .1 .whole .shaped .few) }
+    record { fits = omega (arith, form-sum _ _ _ _ _ _ _ _ _ _ _ (c .before .before .before .before .before .before .before .before .before .before .before .before .before .before .before .before .before .before .before .before .before .before .before .pre .1) (c .before .before .before .before .before .before .before .before .before .before .before .before .before .before .before .hop-or .ensures) (c .before .before .before .before .before .before .before .before .before .before .before .child-of .ensures) (c .before .before .before .before .before .before .child-of2 .ensures) _ (c .before .before .before .before .before .before .before .before .before .before .form-sets .ensures) (c .before .before .before .before .before .form-sets2 .ensures), c .before .before .before .before .before .before .before .before .before .before .before .before .before .before .before .before .before .before .before .before .before .before .before .pre .1 .whole .shaped .few) }
 
--- src/lib.rt:62:44
 form-sets-split-requires : (t : ℕ) → form-sets-lts.Need-split-requires (said t) (form-sets-at t) form-sets.Post
 form-sets-split-requires t c κs =
     search needs
 
--- src/lib.rt:62:17
 form-sets-add-t27 : (t : ℕ) → form-sets-lts.Need-add-t27 (said t) (form-sets-at t) form-sets.Post
 form-sets-add-t27 t c =
-    record { fits = omega (arith, form-room _ _ _ _ _ _ _ _ _ _ _ _ (c .before .before .before .before .before .before .before .before .before .before .before .before .before .before .before .before .before .before .before .before .before .before .before .pre .1) (c .before .before .before .before .before .before .before .before .before .before .before .before .before .before .before .hop-or .ensures) (c .before .before .before .before .before .before .before .before .before .before .before .before .child-of .ensures) (c .before .before .before .before .before .before .before .child-of2 .ensures) (c .split .ensures) _ (c .before .before .before .before .before .before .before .before .before .before .before .form-sets .ensures) (c .before .before .before .before .before .before .form-sets2 .ensures), c .before .before .before .before .before .before .before .before .before .before .before .before .before .before .before .before .before .before .before .before .before .before .before .pre .1 .whole .shaped .few) }
+    record { fits = omega (arith, form-room _ _ _ _ _ _ _ _ _ _ _ _ (c .before .before .before .before .before .before .before .before .before .before .before .before .before .before .before .before .before .before .before .before .before .before .before .before .pre .1) (c .before .before .before .before .before .before .before .before .before .before .before .before .before .before .before .before .hop-or .ensures) (c .before .before .before .before .before .before .before .before .before .before .before .before .child-of .ensures) (c .before .before .before .before .before .before .before .child-of2 .ensures) (c .split .ensures) _ (c .before .before .before .before .before .before .before .before .before .before .before .form-sets .ensures) (c .before .before .before .before .before .before .form-sets2 .ensures), c .before .before .before .before .before .before .before .before .before .before .before .before .before .before .before .before .before .before .before .before .before .before .before .before .pre .1 .whole .shaped .few) }
 
--- src/lib.rt:28:1
 form-sets-returns-3 : (t : ℕ) → form-sets-lts.Need-returns-3 (said t) (form-sets-at t) form-sets.Post
 form-sets-returns-3 t c =
-    form-step _ _ _ _ _ _ _ _ _ _ _ _ (c .before .before .before .before .before .before .before .before .before .before .before .before .before .before .before .before .before .before .before .before .before .before .before .pre .1) (c .before .before .before .before .before .before .before .before .before .before .before .before .before .before .before .hop-or .ensures) (c .before .before .before .before .before .before .before .before .before .before .before .before .child-of .ensures) (c .before .before .before .before .before .before .before .child-of2 .ensures) (c .split .ensures) _ _ (c .before .before .before .before .before .before .before .before .before .before .before .before .before .before .before .before .before .if1 .left) (c .before .before .before .before .before .before .before .before .before .before .before .before .before .before .if2 .left) (c .before .before .before .before .before .before .before .before .before .before .before .form-sets .ensures) (c .before .before .before .before .before .before .form-sets2 .ensures) (c .before .before .before .join .ensures) refl
+    form-step _ _ _ _ _ _ _ _ _ _ _ _ (c .before .before .before .before .before .before .before .before .before .before .before .before .before .before .before .before .before .before .before .before .before .before .before .before .pre .1) (c .before .before .before .before .before .before .before .before .before .before .before .before .before .before .before .before .hop-or .ensures) (c .before .before .before .before .before .before .before .before .before .before .before .before .child-of .ensures) (c .before .before .before .before .before .before .before .child-of2 .ensures) (c .split .ensures) _ _ (c .before .before .before .before .before .before .before .before .before .before .before .before .before .before .before .before .before .before .if1 .left) (c .before .before .before .before .before .before .before .before .before .before .before .before .before .before .if2 .left) (c .before .before .before .before .before .before .before .before .before .before .before .form-sets .ensures) (c .before .before .before .before .before .before .form-sets2 .ensures) (c .before .before .before .join .ensures) refl
 
--- src/lib.rt:28:1
 form-sets-same-length-2 : (t : ℕ) → form-sets-lts.Need-same-length-2 (said t) (form-sets-at t) form-sets.Post
 form-sets-same-length-2 t c =
     form-sets-returns-3 t c .same-length

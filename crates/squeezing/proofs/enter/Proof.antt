@@ -11,45 +11,35 @@ use Rattle.printing.proofs.put_record.Reads as put-record-reads
 use Rattle.sets.proofs.has.Reads as has-reads
 use Rattle.sets.proofs.least.Reads as least-reads
 
--- src/lib.rt:119:8
 has-requires : tie.Need-has-requires
 has-requires c κs = search needs
 
--- src/lib.rt:120:9
 returns : tie.Need-returns
 returns c =
     enters-none _ _ _ _ _ _ _ _ (c .before .has .ensures) (c .if1 .taken) _ refl refl
 
--- src/lib.rt:122:9
 least-requires : tie.Need-least-requires
 least-requires c κs = search needs
 
--- src/lib.rt:123:51
 mul-put-record : tie.Need-mul-put-record
 mul-put-record c = search needs
 
--- src/lib.rt:123:51
 sub-put-record : tie.Need-sub-put-record
 sub-put-record c = search needs
 
--- src/lib.rt:123:5
 put-record-requires : tie.Need-put-record-requires
 put-record-requires c κs =
     can-print _ _ _ _ _ _ _ _ (c .before .before .before .has .ensures) (c .before .before .if1 .left) _ (c .before .least .ensures) (c .before .before .before .before .before .pre .0)
 
--- src/lib.rt:126:13
 add-t13 : tie.Need-add-t13
 add-t13 c = search needs
 
--- src/lib.rt:126:13
 add-t14 : tie.Need-add-t14
 add-t14 c = search needs
 
--- src/lib.rt:107:1
 same-length : tie.Need-same-length
 same-length c = search needs
 
--- src/lib.rt:107:1
 returns-2 : tie.Need-returns-2
 returns-2 c =
     enters-one _ _ _ _ _ _ _ _ (c .before .before .before .before .before .before .has .ensures) (c .before .before .before .before .before .if1 .left) _ (c .before .before .before .before .least .ensures) _ _ (c .before .before .put-record .ensures) refl (omega arith)

@@ -8,24 +8,19 @@ use Rattle.squeezing.proofs.set_of.Reads as reads
 use Rattle.squeezing.proofs.set_of.Lts as lts
 use Rattle.sets.proofs.only.Reads as only-reads
 
--- src/lib.rt:101:16
 mul-result : tie.Need-mul-result
 mul-result c = search needs
 
--- src/lib.rt:101:16
 shared-slice-read-result : tie.Need-shared-slice-read-result
 shared-slice-read-result c = search needs
 
--- src/lib.rt:101:9
 returns : tie.Need-returns
 returns c =
     ((λ l. refl), (λ l. absurd (omega (arith, c .before .if1 .taken))))
 
--- src/lib.rt:103:5
 only-requires : tie.Need-only-requires
 only-requires c κs = search needs
 
--- src/lib.rt:95:1
 returns-2 : tie.Need-returns-2
 returns-2 c = search needs
 

@@ -6,15 +6,12 @@ use Rattle.squeezing.proofs.split.Reads as reads
 use Rattle.squeezing.proofs.split.Lts as lts
 use Rattle.sets.proofs.apart.Reads as apart-reads
 
--- src/lib.rt:21:8
 apart-requires : tie.Need-apart-requires
 apart-requires c κs = search needs
 
--- src/lib.rt:22:9
 returns : tie.Need-returns
 returns c = split-one (met (c .before .before .args .a) (c .before .before .args .b)) (c .before .apart .ensures) (c .if1 .taken)
 
--- src/lib.rt:18:1
 returns-2 : tie.Need-returns-2
 returns-2 c = split-none (met (c .before .before .args .a) (c .before .before .args .b)) (c .before .apart .ensures) (c .if1 .left)
 
