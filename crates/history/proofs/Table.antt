@@ -2,20 +2,20 @@
 -- that forward alike write the same bytes.
 use mathlib.Core.Path.{_≡_, refl, sym, ap, ap₂, _∙_}
 use mathlib.Core.Bool.{true}
-use mathlib.Core.List.{List, [], _∷_, _++_}
+use mathlib.Core.List.{List, [], _++_}
 use mathlib.Core.Option.{none}
-use Prim.Native.Nat.{ℕ, suc, _*_, _≤_, _<_}
+use Prim.Native.Nat.{ℕ, _*_, _≤_, _<_}
 use native.Mathlib.Omega.{arith}
 use lib.ListN.{length, take, drop}
 use lib.Seq.{take-at}
-use Rattle.theory.specs.Ledger.{Ledger, Entry, _via_, isHeld, nothing, load}
+use Rattle.theory.specs.Ledger.{Ledger, Entry, isHeld, nothing, load}
 use Rattle.theory.proofs.Hops.{never}
 use Rattle.rules.specs.Numbers.{ipv4, width, recordBytes, mostSlots}
-use Rattle.rules.specs.Records.{announcements, printTable}
+use Rattle.rules.specs.Records.{printTable}
 use Rattle.rules.specs.Plain.{needs, WithinRules}
 use Rattle.rules.specs.Lookup.{hopOf}
 use Rattle.rules.specs.Writing.{smallestTable, SmallestFor}
-use Rattle.rules.proofs.Records.{printAll-length}
+use Rattle.rules.proofs.Records.{table-length}
 use Rattle.rules.proofs.Slots.{needs-mono, needs-nothing}
 use Rattle.rules.proofs.Smallest.{smallest-for, forward-alike}
 use Rattle.rules.proofs.Lists.{table-reads-back, table-looked-up, no-shorter-list}
@@ -33,14 +33,6 @@ use Rattle.writing.specs.Promise.{bytesFor, writeFault, Writes}
 use Rattle.writing.proofs.Promise.{Same, fault-none, table-of, only-so}
 use Rattle.history.specs.Theorem.{IsSmallest, WritesSmallest}
 
--- a table's bytes: one record an entry
-announced : (T : List Entry) → length (announcements T) ≡ length T
-announced [] = refl
-announced (p via h ∷ T) = ap suc (announced T)
-
-table-bytes : (T : List Entry) → length (printTable ipv4 T) ≡ bytesFor T
-table-bytes T = printAll-length ipv4 (announcements T) ∙ ap (λ k. k * recordBytes ipv4) (announced T)
-
 -- every ledger needs a slot
 some-slot : (w : ℕ) (L : Ledger ℕ) → 0 < needs w L
 some-slot w L = omega (arith, needs-mono w L nothing (λ s e. never e refl), needs-nothing ℕ w)
@@ -51,7 +43,7 @@ written-from : (m : Memory) (scratch output scratch' output' : List ℕ) (r : Wr
     → (T : List Entry) → smallestTable ipv4 (ledgerOf (width ipv4) m) ≡ T → bytesFor T ≤ length output
     → Same r scratch' output' (Table (length T)) (zeros (length scratch)) (printTable ipv4 T ++ drop (length (printTable ipv4 T)) output)
 written-from m scratch output scratch' output' r meets fine held T is room =
-    rw table-bytes (table-of m scratch output scratch' output' r meets fine T (rw (held, is)) room)
+    rw (table-length ipv4 T) (table-of m scratch output scratch' output' r meets fine T (rw (held, is)) room)
 
 -- THE TABLE OF A LEDGER within the rules, with a default route
 module _ (L : Ledger ℕ) (ok : WithinRules (width ipv4) L) (default : isHeld (L []) ≡ true) where
@@ -86,15 +78,15 @@ module _ (L : Ledger ℕ) (ok : WithinRules (width ipv4) L) (default : isHeld (L
 
   pub is-smallest : IsSmallest L (length T) bytes
   is-smallest = record {
-    sized = table-bytes T;
+    sized = table-length ipv4 T;
     agrees = λ x l f looks. looks .answer ∙ table-looked-up ipv4 L ok default x l;
-    fewest-records = λ list same. omega (arith, table-bytes T, no-shorter-list ipv4 L ok default list same);
+    fewest-records = λ list same. omega (arith, table-length ipv4 T, no-shorter-list ipv4 L ok default list same);
     fewest-entries = all .fewest;
     at-most-held = all .at-most-held;
     reads-back = table-reads-back ipv4 L ok default;
     loads = λ n fits few m u taken. taken .answer ∙ ap reported (loaded n fits few m u taken);
     again = λ n fits few m u taken scratch output scratch' output' r meets sized room.
-        let now = written-again n fits few m u taken scratch output scratch' output' r meets sized (omega (arith, table-bytes T)) in
+        let now = written-again n fits few m u taken scratch output scratch' output' r meets sized (omega (arith, table-length ipv4 T)) in
         (now .0, now .2);
   }
 
@@ -127,7 +119,7 @@ table-in-front m scratch output scratch' output' r c meets is =
     let answer : Table c ≡ Table (length T) = sym is ∙ now .0 in
     let count : c ≡ length T = cc in (
       count,
-      ap₂ (λ k o. take (k * recordBytes ipv4) o) count (now .2) ∙ take-at (printTable ipv4 T) (drop (bytesFor T) output) (bytesFor T) (table-bytes T),
+      ap₂ (λ k o. take (k * recordBytes ipv4) o) count (now .2) ∙ take-at (printTable ipv4 T) (drop (bytesFor T) output) (bytesFor T) (table-length ipv4 T),
     )
 
 pub same-bytes : (m m₂ : Memory) → ((x : ℕ) → x < 4294967296 → hopOf ipv4 (ledgerOf (width ipv4) m) x ≡ hopOf ipv4 (ledgerOf (width ipv4) m₂) x)

@@ -15,7 +15,7 @@ use Rattle.rules.specs.Records.{Change, announces, withdraws, Use, update, look
 use Rattle.rules.specs.Plain.{Outcome, taken, refused, needs, ifRoom, apply, Applied, next, applyAll, updated}
 use Rattle.rules.specs.Lookup.{scanAll, scanned, lookedUp}
 use Rattle.rules.specs.Writing.{writes, refuses, smallestTable, written}
-use Rattle.writing.specs.Promise.{bytesFor, intoOutput, writtenInto}
+use Rattle.writing.specs.Promise.{Outcome as Ending, bytesFor, intoOutput, writtenInto}
 use Rattle.history.specs.Runs.{Ask, updating, looking-up, looking-up-in, writing, plainReply}
 use Rattle.history.specs.Theorem.{NotTwo}
 

@@ -131,6 +131,14 @@ readings-print k cs ok = ap (map (read update k)) (records-print k cs) ∙ go cs
     go [] ok = refl
     go (c ∷ cs) ok = ap₂ _∷_ (read-print k c (ok .0)) (go cs (ok .1))
 
+-- a table has one record an entry
+announcements-length : (es : List Entry) → length (announcements es) ≡ length es
+announcements-length [] = refl
+announcements-length (p via h ∷ es) = ap suc (announcements-length es)
+
+pub table-length : (k : ℕ) (es : List Entry) → length (printTable k es) ≡ length es * recordBytes k
+table-length k es = printAll-length k (announcements es) ∙ ap (λ n. n * recordBytes k) (announcements-length es)
+
 -- A table's entries are announcements that records can carry, and what is written of it, looked up, is the list of its entries.
 pub announcements-proper : (k : ℕ) (es : List Entry) → Each (Proper hopBound (width k)) es → Each RealHop es
     → Each (ProperChange (width k)) (announcements es)

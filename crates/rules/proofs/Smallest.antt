@@ -11,12 +11,12 @@ use borrow.Author.Tests.{ne-eqb}
 use Rattle.theory.specs.Bits.{Bits, bitsOf, addressOf, Each}
 use Rattle.theory.specs.Hops.{only, least}
 use Rattle.theory.specs.Ledger.{Ledger, Entry, _via_, isHeld, longest, load}
-use Rattle.theory.specs.Smallest.{setOf, table}
+use Rattle.theory.specs.Smallest.{setOf, table, splits}
 use Rattle.theory.specs.Theorem.{leaves, AllAllowed}
 use Rattle.theory.proofs.Hops.{never, only-allowed, only-one, only-self}
 use Rattle.theory.proofs.Longest.{longest-keeps, longest-default}
 use Rattle.theory.proofs.Sets.{set-avoids}
-use Rattle.theory.proofs.Fewest.{splits, table-count}
+use Rattle.theory.proofs.Fewest.{table-count}
 use Rattle.theory.proofs.Agrees.{table-top}
 use Rattle.theory.proofs.Order.{HopNot, avoids}
 use Rattle.theory.proofs.Address.{address-below, bits-length, bits-address}

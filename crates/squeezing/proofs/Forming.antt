@@ -11,11 +11,10 @@ use lib.Seq.{getD-set-same, getD-set-other}
 use Rattle.theory.specs.Bits.{Bits}
 use Rattle.theory.specs.Hops.{Hops, only, some-below, common, join}
 use Rattle.theory.specs.Ledger.{Ledger, held, isHeld, orElse, longest}
-use Rattle.theory.specs.Smallest.{Leaves, half, setOf}
+use Rattle.theory.specs.Smallest.{Leaves, half, setOf, splits}
 use Rattle.theory.specs.Theorem.{AllAllowed}
 use Rattle.theory.proofs.Hops.{never, only-allowed}
 use Rattle.theory.proofs.Longest.{longest-keeps}
-use Rattle.theory.proofs.Fewest.{splits}
 use Rattle.theory.proofs.Pigeonhole.{count-within}
 use Rattle.theory.proofs.Splits.{splits-held, splits-throughout}
 use Rattle.rules.specs.Numbers.{hopBound, highestHop}

@@ -5,7 +5,7 @@ use mathlib.Core.List.{List}
 use Prim.Native.Nat.{ℕ, zero, suc, _≤_, _<_}
 use lib.ListN.{length, getD}
 use Rattle.theory.specs.Bits.{Bits}
-use Rattle.theory.proofs.Fewest.{splits}
+use Rattle.theory.specs.Smallest.{splits}
 use Rattle.rules.specs.Numbers.{hopBound, lowestHop, highestHop}
 use Rattle.memory.specs.Layout.{Memory, slots, Whole, child, find}
 use Rattle.sets.specs.Sets.{members}

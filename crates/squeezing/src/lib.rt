@@ -1,10 +1,10 @@
 // The smallest table of what lent memory holds: sets upward, entries downward. A walk down uses up one of the address's
 // bits that are left, so both end; what is no slot is answered at the top, so both sides are called without a test.
 ghost use mathlib.Core.Path.{_≡_};
-ghost use mathlib.Core.Bool.{cond};
 ghost use Prim.Native.Nat.{_<_, _≤_};
 ghost use lib.ListN.{length, getD};
-ghost use Rattle.theory.specs.Hops.{only, some-below, common};
+ghost use Rattle.theory.specs.Hops.{only};
+ghost use Rattle.theory.specs.Smallest.{split};
 ghost use Rattle.rules.specs.Numbers.{hopBound, highestHop};
 ghost use Rattle.memory.specs.Layout.{memoryOf};
 ghost use Rattle.sets.specs.Sets.{members};
@@ -20,7 +20,7 @@ pub struct Formed {
 
 // 1 where two sets have no hop in common, else 0: one entry more is needed below.
 fn split(a: u64, b: u64) -> usize
-    ensures { λ r. ⌜ r ≡ cond (some-below hopBound (common (members a) (members b))) 0 1 ⌝ }
+    ensures { λ r. ⌜ r ≡ split hopBound (members a) (members b) ⌝ }
 {
     if sets::apart(a, b) {
         return 1;

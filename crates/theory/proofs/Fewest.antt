@@ -9,24 +9,15 @@ use native.Mathlib.Omega.{arith}
 use lib.ListN.{length, length-append, length-map}
 use Rattle.theory.specs.Hops.{Hops, Allowed, some-below, common, union, join}
 use Rattle.theory.specs.Ledger.{Entry, orElse, nothing, load}
-use Rattle.theory.specs.Smallest.{Leaves, half, setOf, choose, entry, here, under, move, table}
+use Rattle.theory.specs.Smallest.{Leaves, half, setOf, choose, entry, here, under, move, table, split, splits}
 use Rattle.theory.specs.Theorem.{AllAllowed, Agrees}
 use Rattle.theory.proofs.Hops.{by-test, never, join-meets, join-apart, apart}
 use Rattle.theory.proofs.Longest.{after, at-top, split-length, load-top, lookup-down}
 use Rattle.theory.proofs.Sets.{half-allowed, set-allowed, choose-member}
 
--- 1 where the hop is not in the set; 1 where the sets are apart
+-- 1 where the hop is not in the set
 abbrev miss : Hops → ℕ → ℕ
 miss x d = cond (x d) 0 1
-
-abbrev split : ℕ → Hops → Hops → ℕ
-split n x y = cond (some-below n (common x y)) 0 1
-
--- how many strings have children whose sets are apart
-abbrev pub splits : ℕ → ℕ → Leaves → ℕ
-splits n zero F = 0
-splits n (suc w) F =
-    split n (setOf n w (half false F)) (setOf n w (half true F)) + (splits n w (half false F) + splits n w (half true F))
 
 hit : (x : Hops) (d : ℕ) → x d ≡ true → miss x d ≡ 0
 hit x d e = rw e

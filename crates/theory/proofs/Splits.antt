@@ -9,12 +9,12 @@ use lib.ListN.{length}
 use Rattle.theory.specs.Bits.{Bits}
 use Rattle.theory.specs.Hops.{Hops, some-below, only, common}
 use Rattle.theory.specs.Ledger.{Ledger, longest, held, picked, routes}
-use Rattle.theory.specs.Smallest.{Leaves, half}
+use Rattle.theory.specs.Smallest.{Leaves, half, splits}
 use Rattle.theory.specs.Theorem.{AllAllowed, leaves}
 use Rattle.theory.proofs.Hops.{only-self}
 use Rattle.theory.proofs.Sets.{set-of-leaves}
 use Rattle.theory.proofs.OneHop.{set-throughout}
-use Rattle.theory.proofs.Fewest.{splits, fewest}
+use Rattle.theory.proofs.Fewest.{fewest}
 use Rattle.theory.proofs.Held.{held-agrees, held-count}
 
 pub splits-of-leaves : (n w : ℕ) (F G : Leaves) → ((a : Bits) → length a ≡ w → F a ≡ G a) → splits n w F ≡ splits n w G

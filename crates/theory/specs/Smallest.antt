@@ -3,11 +3,11 @@
 use mathlib.Core.Bool.{Bool, true, false, cond}
 use mathlib.Core.List.{List, [], _∷_, _++_, map}
 use mathlib.Core.Option.{Option, none, some}
-use Prim.Native.Nat.{ℕ, zero, suc, _-_}
+use Prim.Native.Nat.{ℕ, zero, suc, _+_, _-_}
 use lib.ListN.{length}
 use Rattle.theory.specs.Bits.{Bits}
 use Rattle.theory.specs.Ledger.{Entry, _via_, orElse, line}
-use Rattle.theory.specs.Hops.{Hops, join, least}
+use Rattle.theory.specs.Hops.{Hops, some-below, common, join, least}
 
 abbrev pub Leaves : Type 0
 Leaves = Bits → Hops
@@ -51,6 +51,16 @@ table n (suc w) F d =
     here (entry n (setOf n (suc w) F) d)
     ++ (under false (table n w (half false F) (choose n (setOf n (suc w) F) d))
     ++ under true (table n w (half true F) (choose n (setOf n (suc w) F) d)))
+
+-- SPLITS: how many strings have children whose sets are apart. The table has as many entries, and one more where d is not in the
+-- top set (proofs/Fewest); so its count is known once the sets are.
+abbrev pub split : ℕ → Hops → Hops → ℕ
+split n x y = cond (some-below n (common x y)) 0 1
+
+abbrev pub splits : ℕ → ℕ → Leaves → ℕ
+splits n zero F = 0
+splits n (suc w) F =
+    split n (setOf n w (half false F)) (setOf n w (half true F)) + (splits n w (half false F) + splits n w (half true F))
 
 -- The same, said of each string s of at most w bits: its set, the hop in force above it, and its entry.
 abbrev pub setAt : ℕ → ℕ → Leaves → Bits → Hops

@@ -8,7 +8,7 @@ use mathlib.Core.Option.{Option, none, some}
 use Prim.Native.Nat.{ℕ, _≤_, _<_}
 use native.Mathlib.Omega.{arith}
 use lib.Dec.{ltb}
-use lib.ListN.{length, drop}
+use lib.ListN.{length, drop, length-append, length-drop, length-replicate}
 use borrow.Author.Tests.{ltb-true, ltb-false, lt-ltb, le-ltb, eq-eqb, ne-eqb}
 use Rattle.theory.specs.Ledger.{Entry, isHeld}
 use Rattle.theory.proofs.Hops.{by-test, or-right}
@@ -16,12 +16,13 @@ use Rattle.theory.proofs.Longest.{none-some}
 use Rattle.rules.specs.Numbers.{ipv4, width, badSlices, noLedger, noDefault, shortOutput}
 use Rattle.rules.specs.Records.{printTable}
 use Rattle.rules.specs.Writing.{Written, writes, refuses, smallestTable, written}
+use Rattle.rules.proofs.Records.{table-length}
 use Rattle.memory.specs.Layout.{Memory, slots, ledgerOf, holdsLedger, zeros}
 use Rattle.lent.specs.Lent.{badLent, lentFault}
 use Rattle.lent.proofs.Faults.{of-good, let-through, holds-of}
 use Rattle.writing.specs.declared.Wrote.{Wrote}
 use Rattle.writing.specs.declared.Wrote.the-variants.{Table, Refused}
-use Rattle.writing.specs.Promise.{outcomeOf, bytesFor, intoOutput, writtenInto, writeFault, writeAfter, writeOf, Writes}
+use Rattle.writing.specs.Promise.{Outcome, outcomeOf, bytesFor, intoOutput, writtenInto, writeFault, writeAfter, writeOf, Writes}
 
 -- ONE ANSWER, and one scratch and one output beside it
 abbrev pub Same : Wrote → List ℕ → List ℕ → Wrote → List ℕ → List ℕ → Type 0
@@ -40,6 +41,55 @@ module _ (m : Memory) (scratch output : List ℕ) where
   pub one-answer : (s₁ o₁ s₂ o₂ : List ℕ) (r₁ r₂ : Wrote) → Writes m scratch output s₁ o₁ r₁ → Writes m scratch output s₂ o₂ r₂
       → Same r₁ s₁ o₁ r₂ s₂ o₂
   one-answer s₁ o₁ s₂ o₂ r₁ r₂ one other = same-outcome r₁ r₂ s₁ o₁ s₂ o₂ (one .outcome ∙ sym (other .outcome))
+
+-- and there is one: whatever is lent, some answer meets the promise
+answer-of : (w : Outcome) (f : Option ℕ) → w .refusal ≡ f → (r : Wrote) × (outcomeOf r (w .scratch) (w .output) ≡ w)
+answer-of w none e = (Table (w .count), λ i. record { refusal = sym e i; count = w .count; scratch = w .scratch; output = w .output })
+answer-of w (some x) e = (Refused x (w .count), λ i. record { refusal = sym e i; count = w .count; scratch = w .scratch; output = w .output })
+
+pub some-answer : (m : Memory) (scratch output : List ℕ)
+    → (r : Wrote) × Writes m scratch output (writeOf m scratch output .scratch) (writeOf m scratch output .output) r
+some-answer m scratch output =
+    let found = answer-of (writeOf m scratch output) (writeOf m scratch output .refusal) refl in
+    (found .0, record { outcome = found .1 })
+
+beside : (r : Wrote) (s o : List ℕ) → (outcomeOf r s o .scratch ≡ s) × (outcomeOf r s o .output ≡ o)
+beside (Table c) s o = (refl, refl)
+beside (Refused x c) s o = (refl, refl)
+
+-- LENGTHS STAY, whatever comes of the call
+pub lengths-stay : (m : Memory) (scratch output scratch' output' : List ℕ) (r : Wrote) → Writes m scratch output scratch' output' r
+    → (length scratch' ≡ length scratch) × (length output' ≡ length output)
+unfolding writeOf
+lengths-stay m scratch output scratch' output' r meets =
+    let kept = after (writeFault m scratch) in
+    let left = beside r scratch' output' in (
+      ap length (sym (left .0)) ∙ ap (λ w. length (w .scratch)) (meets .outcome) ∙ kept .0,
+      ap length (sym (left .1)) ∙ ap (λ w. length (w .output)) (meets .outcome) ∙ kept .1,
+    )
+  where
+    Kept : Outcome → Type 0
+    Kept w = (length (w .scratch) ≡ length scratch) × (length (w .output) ≡ length output)
+
+    table : (T : List Entry) → Kept (intoOutput T scratch output)
+    table T =
+        elim (by-test (ltb (length output) (bytesFor T))) [
+          | inl short ↦ rw short (length-replicate (length scratch) 0, refl)
+          | inr fits ↦
+              rw fits (
+                length-replicate (length scratch) 0,
+                length-append (printTable ipv4 T) (drop (bytesFor T) output)
+                    ∙ omega (arith, table-length ipv4 T, length-drop (bytesFor T) output, ltb-false (length output) (bytesFor T) fits),
+              )
+        ]
+
+    into : (w : Written) → Kept (writtenInto w scratch output)
+    into (writes T) = table T
+    into (refuses x) = (refl, refl)
+
+    after : (f : Option ℕ) → Kept (writeAfter f m scratch output)
+    after none = into (written ipv4 (ledgerOf (width ipv4) m))
+    after (some x) = (refl, refl)
 
 -- What is decided before the output's room is looked at, and of the scratch only its length: a refusal that changes nothing, or
 -- the table.

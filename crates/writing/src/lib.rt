@@ -3,6 +3,7 @@ ghost use mathlib.Core.Path.{_≡_};
 ghost use lib.ListN.{length};
 ghost use Rattle.memory.specs.Layout.{memoryOf, zeros};
 ghost use Rattle.writing.specs.Promise.{Writes};
+ghost use Rattle.writing.specs.Steps.{Begun};
 use memory::Path;
 use numbers::ADDRESS;
 use numbers::BAD_SLICES;
@@ -27,6 +28,48 @@ fn clear(scratch: &mut [u64])
         scratch[at] = 0;
         at += 1;
     }
+}
+
+// Writing, once the checks have let it through: `default` is the hop of the prefix of length 0.
+fn squeeze(
+    lo: &[u32],
+    hi: &[u32],
+    up: &[u32],
+    hop: &[u32],
+    scratch: &mut [u64],
+    output: &mut [u8],
+    default: u32,
+) -> Wrote
+    requires { ⌜ Begun (memoryOf (now lo) (now hi) (now up) (now hop)) (now scratch) default ⌝ }
+    ensures { λ r. ⌜ Writes (memoryOf (now (lo .entry)) (now (hi .entry)) (now (up .entry)) (now (hop .entry))) (now (scratch .entry)) (now (output .entry)) (now (scratch .exit)) (now (output .exit)) r ⌝ }
+{
+    let formed = squeezing::form_sets(lo, hi, up, hop, scratch, 0, WIDTH, default);
+    let count = formed.splits + 1;
+    if output.len() / RECORD < count {
+        clear(scratch);
+        return Wrote::Refused {
+            number: SHORT_OUTPUT,
+            count,
+        };
+    }
+    let top = Path { high: 0, low: 0 };
+    squeezing::write_entries(
+        lo,
+        hi,
+        up,
+        hop,
+        scratch,
+        output,
+        0,
+        WIDTH,
+        default,
+        NO_ROUTE,
+        top,
+        ADDRESS,
+        0,
+    );
+    clear(scratch);
+    Wrote::Table { count }
 }
 
 // The smallest table that forwards every address as the ledger does, as records into the output; one word of scratch a slot.
@@ -60,31 +103,5 @@ pub fn write(
         };
     }
     let default = memory::hop_or(hop[0], NO_ROUTE);
-    let formed = squeezing::form_sets(lo, hi, up, hop, scratch, 0, WIDTH, default);
-    let count = formed.splits + 1;
-    if output.len() / RECORD < count {
-        clear(scratch);
-        return Wrote::Refused {
-            number: SHORT_OUTPUT,
-            count,
-        };
-    }
-    let top = Path { high: 0, low: 0 };
-    squeezing::write_entries(
-        lo,
-        hi,
-        up,
-        hop,
-        scratch,
-        output,
-        0,
-        WIDTH,
-        default,
-        NO_ROUTE,
-        top,
-        ADDRESS,
-        0,
-    );
-    clear(scratch);
-    Wrote::Table { count }
+    squeeze(lo, hi, up, hop, scratch, output, default)
 }

@@ -34,19 +34,23 @@ said t = (only-reads.Asked, only-reads.Learnt, hop-or-reads.Asked, hop-or-reads.
 
 form-sets-only-requires : (t : ℕ) → form-sets-lts.Need-only-requires (said t) (form-sets-at t) form-sets.Post
 form-sets-only-requires t c κs =
-    c .before .before .before .before .before .before .pre .1 .hop
+    let entry = c .before .before .before .before .before .before in
+    entry .pre .1 .hop
 
 form-sets-returns : (t : ℕ) → form-sets-lts.Need-returns (said t) (form-sets-at t) form-sets.Post
 form-sets-returns t c =
-    form-none _ (c .before .before .before .before .before .before .before .pre .1 .whole) _ _ _ _ _ (c .before .before .before .before .before .before .before .pre .1 .hop) (c .before .if1 .taken) (c .only .ensures) refl
+    let entry = c .before .before .before .before .before .before .before in
+    form-none _ (entry .pre .1 .whole) _ _ _ _ _ (entry .pre .1 .hop) (c .before .if1 .taken) (c .only .ensures) refl
 
 form-sets-mul-hop-or : (t : ℕ) → form-sets-lts.Need-mul-hop-or (said t) (form-sets-at t) form-sets.Post
 form-sets-mul-hop-or t c =
-    record { fits = omega (arith, c .if1 .left, c .before .before .before .before .before .before .pre .1 .whole .shaped .few) }
+    let entry = c .before .before .before .before .before .before in
+    record { fits = omega (arith, c .if1 .left, entry .pre .1 .whole .shaped .few) }
 
 form-sets-shared-slice-read-hop-or : (t : ℕ) → form-sets-lts.Need-shared-slice-read-hop-or (said t) (form-sets-at t) form-sets.Post
 form-sets-shared-slice-read-hop-or t c =
-    omega (arith, c .before .if1 .left, c .before .before .before .before .before .before .before .pre .1 .whole .hops)
+    let entry = c .before .before .before .before .before .before .before in
+    omega (arith, c .before .if1 .left, entry .pre .1 .whole .hops)
 
 form-sets-hop-or-requires : (t : ℕ) → form-sets-lts.Need-hop-or-requires (said t) (form-sets-at t) form-sets.Post
 form-sets-hop-or-requires t c κs =
@@ -54,15 +58,20 @@ form-sets-hop-or-requires t c κs =
 
 form-sets-only-requires-2 : (t : ℕ) → form-sets-lts.Need-only-requires-2 (said t) (form-sets-at t) form-sets.Post
 form-sets-only-requires-2 t c κs =
-    in-range _ (c .before .before .before .before .before .before .before .before .pre .1) (c .hop-or .ensures)
+    let entry = c .before .before .before .before .before .before .before .before in
+    in-range _ (entry .pre .1) (c .hop-or .ensures)
 
 form-sets-mul-scratch : (t : ℕ) → form-sets-lts.Need-mul-scratch (said t) (form-sets-at t) form-sets.Post
 form-sets-mul-scratch t c =
-    record { fits = omega (arith, c .before .before .before .before .if1 .left, c .before .before .before .before .before .before .before .before .before .before .pre .1 .whole .shaped .few) }
+    let at-if1 = c .before .before .before .before in
+    let entry = at-if1 .before .before .before .before .before .before in
+    record { fits = omega (arith, at-if1 .if1 .left, entry .pre .1 .whole .shaped .few) }
 
 form-sets-slice-write-scratch : (t : ℕ) → form-sets-lts.Need-slice-write-scratch (said t) (form-sets-at t) form-sets.Post
 form-sets-slice-write-scratch t c =
-    omega (arith, c .before .before .before .before .if1 .left, c .before .before .before .before .before .before .before .before .before .before .pre .1 .sized)
+    let at-if1 = c .before .before .before .before in
+    let entry = at-if1 .before .before .before .before .before .before in
+    omega (arith, at-if1 .if1 .left, entry .pre .1 .sized)
 
 form-sets-same-length : (t : ℕ) → form-sets-lts.Need-same-length (said t) (form-sets-at t) form-sets.Post
 form-sets-same-length t c =
@@ -70,31 +79,47 @@ form-sets-same-length t c =
 
 form-sets-returns-2 : (t : ℕ) → form-sets-lts.Need-returns-2 (said t) (form-sets-at t) form-sets.Post
 form-sets-returns-2 t c =
-    form-full-at _ _ _ _ _ _ _ (c .before .before .before .before .before .before .before .before .before .before .pre .1 .sized) (c .before .before .before .before .if1 .left) (c .if2 .taken) (c .before .before .hop-or .ensures) (c .before .only2 .ensures) refl
+    let at-hop-or = c .before .before in
+    let at-if1 = at-hop-or .before .before in
+    let entry = at-if1 .before .before .before .before .before .before in
+    form-full-at _ _ _ _ _ _ _ (entry .pre .1 .sized) (at-if1 .if1 .left) (c .if2 .taken) (at-hop-or .hop-or .ensures) (c .before .only2 .ensures) refl
 
 form-sets-child-of-requires : (t : ℕ) → form-sets-lts.Need-child-of-requires (said t) (form-sets-at t) form-sets.Post
 form-sets-child-of-requires t c κs =
-    (c .before .before .before .before .before .before .before .before .before .before .before .pre .1 .whole .shaped, c .before .before .before .before .before .if1 .left)
+    let at-if1 = c .before .before .before .before .before in
+    let entry = at-if1 .before .before .before .before .before .before in
+    (entry .pre .1 .whole .shaped, at-if1 .if1 .left)
 
 form-sets-sub-form-sets : (t : ℕ) → form-sets-lts.Need-sub-form-sets (said t) (form-sets-at t) form-sets.Post
 form-sets-sub-form-sets t c =
-    not-none _ (c .before .before .if2 .left)
+    let at-if2 = c .before .before in
+    not-none _ (at-if2 .if2 .left)
 
 form-sets-form-sets-requires : (t : ℕ) → form-sets-lts.Need-form-sets-requires (said t) (form-sets-at t) form-sets.Post
 form-sets-form-sets-requires t c κs =
-    (omega (arith, not-none _ (c .before .before .if2 .left), c .before .before .before .before .before .before .before .before .before .before .before .before .pre .0), can-child _ false (c .before .before .before .before .before .before .before .before .before .before .before .before .pre .1) refl (c .before .before .before .before .hop-or .ensures) (c .child-of .ensures))
+    let at-if2 = c .before .before in
+    let at-hop-or = at-if2 .before .before in
+    let entry = at-hop-or .before .before .before .before .before .before .before .before in
+    (omega (arith, not-none _ (at-if2 .if2 .left), entry .pre .0), can-child _ false (entry .pre .1) refl (at-hop-or .hop-or .ensures) (c .child-of .ensures))
 
 form-sets-child-of-requires-2 : (t : ℕ) → form-sets-lts.Need-child-of-requires-2 (said t) (form-sets-at t) form-sets.Post
 form-sets-child-of-requires-2 t c κs =
-    (c .before .before .before .before .before .before .before .before .before .before .before .before .before .before .before .before .pre .1 .whole .shaped, c .before .before .before .before .before .before .before .before .before .before .if1 .left)
+    let at-if1 = c .before .before .before .before .before .before .before .before .before .before in
+    let entry = at-if1 .before .before .before .before .before .before in
+    (entry .pre .1 .whole .shaped, at-if1 .if1 .left)
 
 form-sets-sub-form-sets-2 : (t : ℕ) → form-sets-lts.Need-sub-form-sets-2 (said t) (form-sets-at t) form-sets.Post
 form-sets-sub-form-sets-2 t c =
-    not-none _ (c .before .before .before .before .before .before .before .if2 .left)
+    let at-if2 = c .before .before .before .before .before .before .before in
+    not-none _ (at-if2 .if2 .left)
 
 form-sets-form-sets-requires-2 : (t : ℕ) → form-sets-lts.Need-form-sets-requires-2 (said t) (form-sets-at t) form-sets.Post
 form-sets-form-sets-requires-2 t c κs =
-    (omega (arith, not-none _ (c .before .before .before .before .before .before .before .if2 .left), c .before .before .before .before .before .before .before .before .before .before .before .before .before .before .before .before .before .pre .0), can-child _ true (c .before .before .before .before .before .before .before .before .before .before .before .before .before .before .before .before .before .pre .1) (c .before .before .before .before .form-sets .ensures .same-length) (c .before .before .before .before .before .before .before .before .before .hop-or .ensures) (c .child-of2 .ensures))
+    let at-form-sets = c .before .before .before .before in
+    let at-if2 = at-form-sets .before .before .before in
+    let at-hop-or = at-if2 .before .before in
+    let entry = at-hop-or .before .before .before .before .before .before .before .before in
+    (omega (arith, not-none _ (at-if2 .if2 .left), entry .pre .0), can-child _ true (entry .pre .1) (at-form-sets .form-sets .ensures .same-length) (at-hop-or .hop-or .ensures) (c .child-of2 .ensures))
 
 form-sets-join-requires : (t : ℕ) → form-sets-lts.Need-join-requires (said t) (form-sets-at t) form-sets.Post
 form-sets-join-requires t c κs =
@@ -102,15 +127,27 @@ form-sets-join-requires t c κs =
 
 form-sets-mul-scratch-2 : (t : ℕ) → form-sets-lts.Need-mul-scratch-2 (said t) (form-sets-at t) form-sets.Post
 form-sets-mul-scratch-2 t c =
-    record { fits = omega (arith, c .before .before .before .before .before .before .before .before .before .before .before .before .before .before .before .if1 .left, c .before .before .before .before .before .before .before .before .before .before .before .before .before .before .before .before .before .before .before .before .before .pre .1 .whole .shaped .few) }
+    let at-if1 = c .before .before .before .before .before .before .before .before .before .before .before .before .before .before .before in
+    let entry = at-if1 .before .before .before .before .before .before in
+    record { fits = omega (arith, at-if1 .if1 .left, entry .pre .1 .whole .shaped .few) }
 
 form-sets-slice-write-scratch-2 : (t : ℕ) → form-sets-lts.Need-slice-write-scratch-2 (said t) (form-sets-at t) form-sets.Post
 form-sets-slice-write-scratch-2 t c =
-    omega (arith, c .before .before .before .before .before .before .before .before .before .before .before .before .before .before .before .if1 .left, c .before .before .before .before .before .before .before .before .before .before .before .before .before .before .before .before .before .before .before .before .before .pre .1 .sized, c .before .before .before .before .before .before .before .before .form-sets .ensures .same-length, c .before .before .before .form-sets2 .ensures .same-length)
+    let at-form-sets2 = c .before .before .before in
+    let at-form-sets = at-form-sets2 .before .before .before .before .before in
+    let at-if1 = at-form-sets .before .before .before .before .before .before .before in
+    let entry = at-if1 .before .before .before .before .before .before in
+    omega (arith, at-if1 .if1 .left, entry .pre .1 .sized, at-form-sets .form-sets .ensures .same-length, at-form-sets2 .form-sets2 .ensures .same-length)
 
 form-sets-add-t23 : (t : ℕ) → form-sets-lts.Need-add-t23 (said t) (form-sets-at t) form-sets.Post
 form-sets-add-t23 t c =
-    record { fits = omega (arith, form-sum _ _ _ _ _ _ _ _ _ _ _ (c .before .before .before .before .before .before .before .before .before .before .before .before .before .before .before .before .before .before .before .before .before .before .before .pre .1) (c .before .before .before .before .before .before .before .before .before .before .before .before .before .before .before .hop-or .ensures) (c .before .before .before .before .before .before .before .before .before .before .before .child-of .ensures) (c .before .before .before .before .before .before .child-of2 .ensures) _ (c .before .before .before .before .before .before .before .before .before .before .form-sets .ensures) (c .before .before .before .before .before .form-sets2 .ensures), c .before .before .before .before .before .before .before .before .before .before .before .before .before .before .before .before .before .before .before .before .before .before .before .pre .1 .whole .shaped .few) }
+    let at-form-sets2 = c .before .before .before .before .before in
+    let at-child-of2 = at-form-sets2 .before in
+    let at-form-sets = at-child-of2 .before .before .before .before in
+    let at-child-of = at-form-sets .before in
+    let at-hop-or = at-child-of .before .before .before .before in
+    let entry = at-hop-or .before .before .before .before .before .before .before .before in
+    record { fits = omega (arith, form-sum _ _ _ _ _ _ _ _ _ _ _ (entry .pre .1) (at-hop-or .hop-or .ensures) (at-child-of .child-of .ensures) (at-child-of2 .child-of2 .ensures) _ (at-form-sets .form-sets .ensures) (at-form-sets2 .form-sets2 .ensures), entry .pre .1 .whole .shaped .few) }
 
 form-sets-split-requires : (t : ℕ) → form-sets-lts.Need-split-requires (said t) (form-sets-at t) form-sets.Post
 form-sets-split-requires t c κs =
@@ -118,11 +155,26 @@ form-sets-split-requires t c κs =
 
 form-sets-add-t27 : (t : ℕ) → form-sets-lts.Need-add-t27 (said t) (form-sets-at t) form-sets.Post
 form-sets-add-t27 t c =
-    record { fits = omega (arith, form-room _ _ _ _ _ _ _ _ _ _ _ _ (c .before .before .before .before .before .before .before .before .before .before .before .before .before .before .before .before .before .before .before .before .before .before .before .before .pre .1) (c .before .before .before .before .before .before .before .before .before .before .before .before .before .before .before .before .hop-or .ensures) (c .before .before .before .before .before .before .before .before .before .before .before .before .child-of .ensures) (c .before .before .before .before .before .before .before .child-of2 .ensures) (c .split .ensures) _ (c .before .before .before .before .before .before .before .before .before .before .before .form-sets .ensures) (c .before .before .before .before .before .before .form-sets2 .ensures), c .before .before .before .before .before .before .before .before .before .before .before .before .before .before .before .before .before .before .before .before .before .before .before .before .pre .1 .whole .shaped .few) }
+    let at-form-sets2 = c .before .before .before .before .before .before in
+    let at-child-of2 = at-form-sets2 .before in
+    let at-form-sets = at-child-of2 .before .before .before .before in
+    let at-child-of = at-form-sets .before in
+    let at-hop-or = at-child-of .before .before .before .before in
+    let entry = at-hop-or .before .before .before .before .before .before .before .before in
+    record { fits = omega (arith, form-room _ _ _ _ _ _ _ _ _ _ _ _ (entry .pre .1) (at-hop-or .hop-or .ensures) (at-child-of .child-of .ensures) (at-child-of2 .child-of2 .ensures) (c .split .ensures) _ (at-form-sets .form-sets .ensures) (at-form-sets2 .form-sets2 .ensures), entry .pre .1 .whole .shaped .few) }
 
 form-sets-returns-3 : (t : ℕ) → form-sets-lts.Need-returns-3 (said t) (form-sets-at t) form-sets.Post
 form-sets-returns-3 t c =
-    form-step _ _ _ _ _ _ _ _ _ _ _ _ (c .before .before .before .before .before .before .before .before .before .before .before .before .before .before .before .before .before .before .before .before .before .before .before .before .pre .1) (c .before .before .before .before .before .before .before .before .before .before .before .before .before .before .before .before .hop-or .ensures) (c .before .before .before .before .before .before .before .before .before .before .before .before .child-of .ensures) (c .before .before .before .before .before .before .before .child-of2 .ensures) (c .split .ensures) _ _ (c .before .before .before .before .before .before .before .before .before .before .before .before .before .before .before .before .before .before .if1 .left) (c .before .before .before .before .before .before .before .before .before .before .before .before .before .before .if2 .left) (c .before .before .before .before .before .before .before .before .before .before .before .form-sets .ensures) (c .before .before .before .before .before .before .form-sets2 .ensures) (c .before .before .before .join .ensures) refl
+    let at-join = c .before .before .before in
+    let at-form-sets2 = at-join .before .before .before in
+    let at-child-of2 = at-form-sets2 .before in
+    let at-form-sets = at-child-of2 .before .before .before .before in
+    let at-child-of = at-form-sets .before in
+    let at-if2 = at-child-of .before .before in
+    let at-hop-or = at-if2 .before .before in
+    let at-if1 = at-hop-or .before .before in
+    let entry = at-if1 .before .before .before .before .before .before in
+    form-step _ _ _ _ _ _ _ _ _ _ _ _ (entry .pre .1) (at-hop-or .hop-or .ensures) (at-child-of .child-of .ensures) (at-child-of2 .child-of2 .ensures) (c .split .ensures) _ _ (at-if1 .if1 .left) (at-if2 .if2 .left) (at-form-sets .form-sets .ensures) (at-form-sets2 .form-sets2 .ensures) (at-join .join .ensures) refl
 
 form-sets-same-length-2 : (t : ℕ) → form-sets-lts.Need-same-length-2 (said t) (form-sets-at t) form-sets.Post
 form-sets-same-length-2 t c =

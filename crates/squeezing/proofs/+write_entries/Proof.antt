@@ -34,12 +34,14 @@ said t = (set-of-reads.Asked, set-of-reads.Learnt, enter-reads.Asked, enter-read
 
 write-entries-set-of-requires : (t : ℕ) → write-entries-lts.Need-set-of-requires (said t) (write-entries-at t) write-entries.Post
 write-entries-set-of-requires t c κs =
-    c .before .before .before .before .before .before .before .pre .1 .can .hop
+    let entry = c .before .before .before .before .before .before .before in
+    entry .pre .1 .can .hop
 
 write-entries-enter-requires : (t : ℕ) → write-entries-lts.Need-enter-requires (said t) (write-entries-at t) write-entries.Post
 write-entries-enter-requires t c κs =
-    let set = the-set _ _ _ _ _ _ _ _ _ _ _ (c .before .before .before .before .before .before .before .before .pre .1) (c .set-of .ensures .0) (c .set-of .ensures .1) in
-    (can-enter _ _ _ _ _ _ _ _ _ _ _ (c .before .before .before .before .before .before .before .before .pre .1) set, c .before .before .before .before .before .before .before .before .pre .1 .chosen)
+    let entry = c .before .before .before .before .before .before .before .before in
+    let set = the-set _ _ _ _ _ _ _ _ _ _ _ (entry .pre .1) (c .set-of .ensures .0) (c .set-of .ensures .1) in
+    (can-enter _ _ _ _ _ _ _ _ _ _ _ (entry .pre .1) set, entry .pre .1 .chosen)
 
 write-entries-same-length : (t : ℕ) → write-entries-lts.Need-same-length (said t) (write-entries-at t) write-entries.Post
 write-entries-same-length t c =
@@ -47,8 +49,11 @@ write-entries-same-length t c =
 
 write-entries-returns : (t : ℕ) → write-entries-lts.Need-returns (said t) (write-entries-at t) write-entries.Post
 write-entries-returns t c =
-    let set = the-set _ _ _ _ _ _ _ _ _ _ _ (c .before .before .before .before .before .before .before .before .before .before .before .before .pre .1) (c .before .before .before .before .set-of .ensures .0) (c .before .before .before .before .set-of .ensures .1) in
-    puts-none _ _ _ _ _ _ _ _ _ _ _ _ _ (c .before .before .before .before .before .before .before .before .before .before .before .before .pre .1) (c .if1 .taken) set (c .before .before .before .enter .ensures)
+    let at-enter = c .before .before .before in
+    let at-set-of = at-enter .before in
+    let entry = at-set-of .before .before .before .before .before .before .before .before in
+    let set = the-set _ _ _ _ _ _ _ _ _ _ _ (entry .pre .1) (at-set-of .set-of .ensures .0) (at-set-of .set-of .ensures .1) in
+    puts-none _ _ _ _ _ _ _ _ _ _ _ _ _ (entry .pre .1) (c .if1 .taken) set (at-enter .enter .ensures)
 
 write-entries-same-length-2 : (t : ℕ) → write-entries-lts.Need-same-length-2 (said t) (write-entries-at t) write-entries.Post
 write-entries-same-length-2 t c =
@@ -56,16 +61,22 @@ write-entries-same-length-2 t c =
 
 write-entries-returns-2 : (t : ℕ) → write-entries-lts.Need-returns-2 (said t) (write-entries-at t) write-entries.Post
 write-entries-returns-2 t c =
-    let set = the-set _ _ _ _ _ _ _ _ _ _ _ (c .before .before .before .before .before .before .before .before .before .before .before .before .before .pre .1) (c .before .before .before .before .before .set-of .ensures .0) (c .before .before .before .before .before .set-of .ensures .1) in
-    puts-full _ _ _ _ _ _ _ _ _ _ _ _ _ (c .before .before .before .before .before .before .before .before .before .before .before .before .before .pre .1) (c .if2 .taken) set (c .before .before .before .before .enter .ensures)
+    let at-enter = c .before .before .before .before in
+    let at-set-of = at-enter .before in
+    let entry = at-set-of .before .before .before .before .before .before .before .before in
+    let set = the-set _ _ _ _ _ _ _ _ _ _ _ (entry .pre .1) (at-set-of .set-of .ensures .0) (at-set-of .set-of .ensures .1) in
+    puts-full _ _ _ _ _ _ _ _ _ _ _ _ _ (entry .pre .1) (c .if2 .taken) set (at-enter .enter .ensures)
 
 write-entries-mul-hop-or : (t : ℕ) → write-entries-lts.Need-mul-hop-or (said t) (write-entries-at t) write-entries.Post
 write-entries-mul-hop-or t c =
-    record { fits = omega (arith, c .before .if1 .left, c .before .before .before .before .before .before .before .before .before .before .before .before .before .pre .1 .can .whole .shaped .few) }
+    let entry = c .before .before .before .before .before .before .before .before .before .before .before .before .before in
+    record { fits = omega (arith, c .before .if1 .left, entry .pre .1 .can .whole .shaped .few) }
 
 write-entries-shared-slice-read-hop-or : (t : ℕ) → write-entries-lts.Need-shared-slice-read-hop-or (said t) (write-entries-at t) write-entries.Post
 write-entries-shared-slice-read-hop-or t c =
-    omega (arith, c .before .before .if1 .left, c .before .before .before .before .before .before .before .before .before .before .before .before .before .before .pre .1 .can .whole .hops)
+    let at-if1 = c .before .before in
+    let entry = at-if1 .before .before .before .before .before .before .before .before .before .before .before .before in
+    omega (arith, at-if1 .if1 .left, entry .pre .1 .can .whole .hops)
 
 write-entries-hop-or-requires : (t : ℕ) → write-entries-lts.Need-hop-or-requires (said t) (write-entries-at t) write-entries.Post
 write-entries-hop-or-requires t c κs =
@@ -73,56 +84,84 @@ write-entries-hop-or-requires t c κs =
 
 write-entries-child-of-requires : (t : ℕ) → write-entries-lts.Need-child-of-requires (said t) (write-entries-at t) write-entries.Post
 write-entries-child-of-requires t c κs =
-    (c .before .before .before .before .before .before .before .before .before .before .before .before .before .before .before .before .pre .1 .can .whole .shaped, c .before .before .before .before .if1 .left)
+    let at-if1 = c .before .before .before .before in
+    let entry = at-if1 .before .before .before .before .before .before .before .before .before .before .before .before in
+    (entry .pre .1 .can .whole .shaped, at-if1 .if1 .left)
 
 write-entries-sub-write-entries : (t : ℕ) → write-entries-lts.Need-sub-write-entries (said t) (write-entries-at t) write-entries.Post
 write-entries-sub-write-entries t c =
-    not-none _ (c .before .before .before .before .if2 .left)
+    let at-if2 = c .before .before .before .before in
+    not-none _ (at-if2 .if2 .left)
 
 write-entries-write-entries-requires : (t : ℕ) → write-entries-lts.Need-write-entries-requires (said t) (write-entries-at t) write-entries.Post
 write-entries-write-entries-requires t c κs =
-    let set = the-set _ _ _ _ _ _ _ _ _ _ _ (c .before .before .before .before .before .before .before .before .before .before .before .before .before .before .before .before .before .pre .1) (c .before .before .before .before .before .before .before .before .before .set-of .ensures .0) (c .before .before .before .before .before .before .before .before .before .set-of .ensures .1) in (
-      omega (arith, not-none _ (c .before .before .before .before .if2 .left), c .before .before .before .before .before .before .before .before .before .before .before .before .before .before .before .before .before .pre .0),
-      can-zero _ _ _ _ _ _ _ _ _ _ _ _ _ _ (one-more _ (c .before .before .before .before .if2 .left)) (c .before .before .before .before .before .before .before .before .before .before .before .before .before .before .before .before .before .pre .1) set (c .before .before .before .before .before .before .before .before .enter .ensures) _ _ _ (c .before .before .hop-or .ensures) (c .child-of .ensures) refl,
-    )
+    let at-hop-or = c .before .before in
+    let at-if2 = at-hop-or .before .before in
+    let at-enter = at-if2 .before .before .before .before in
+    let at-set-of = at-enter .before in
+    let entry = at-set-of .before .before .before .before .before .before .before .before in
+    let set = the-set _ _ _ _ _ _ _ _ _ _ _ (entry .pre .1) (at-set-of .set-of .ensures .0) (at-set-of .set-of .ensures .1) in
+    (omega (arith, not-none _ (at-if2 .if2 .left), entry .pre .0), can-zero _ _ _ _ _ _ _ _ _ _ _ _ _ _ (one-more _ (at-if2 .if2 .left)) (entry .pre .1) set (at-enter .enter .ensures) _ _ _ (at-hop-or .hop-or .ensures) (c .child-of .ensures) refl)
 
 write-entries-mul-set-bit : (t : ℕ) → write-entries-lts.Need-mul-set-bit (said t) (write-entries-at t) write-entries.Post
 write-entries-mul-set-bit t c =
-    record { fits = omega (arith, c .before .before .before .before .before .before .before .before .before .before .before .before .before .before .before .before .before .before .before .before .pre .1 .path-short .fits) }
+    let entry = c .before .before .before .before .before .before .before .before .before .before .before .before .before .before .before .before .before .before .before .before in
+    record { fits = omega (arith, entry .pre .1 .path-short .fits) }
 
 write-entries-sub-set-bit : (t : ℕ) → write-entries-lts.Need-sub-set-bit (said t) (write-entries-at t) write-entries.Post
 write-entries-sub-set-bit t c =
-    c .before .before .before .before .before .before .before .before .before .before .before .before .before .before .before .before .before .before .before .before .pre .1 .path-short .short
+    let entry = c .before .before .before .before .before .before .before .before .before .before .before .before .before .before .before .before .before .before .before .before in
+    entry .pre .1 .path-short .short
 
 write-entries-set-bit-requires : (t : ℕ) → write-entries-lts.Need-set-bit-requires (said t) (write-entries-at t) write-entries.Post
 write-entries-set-bit-requires t c κs =
-    omega (arith, not-none _ (c .before .before .before .before .before .before .before .if2 .left), c .before .before .before .before .before .before .before .before .before .before .before .before .before .before .before .before .before .before .before .before .pre .1 .path-short .fits, c .before .before .before .before .before .before .before .before .before .before .before .before .before .before .before .before .before .before .before .before .pre .1 .path-short .short)
+    let at-if2 = c .before .before .before .before .before .before .before in
+    let entry = at-if2 .before .before .before .before .before .before .before .before .before .before .before .before .before in
+    omega (arith, not-none _ (at-if2 .if2 .left), entry .pre .1 .path-short .fits, entry .pre .1 .path-short .short)
 
 write-entries-child-of-requires-2 : (t : ℕ) → write-entries-lts.Need-child-of-requires-2 (said t) (write-entries-at t) write-entries.Post
 write-entries-child-of-requires-2 t c κs =
-    (c .before .before .before .before .before .before .before .before .before .before .before .before .before .before .before .before .before .before .before .before .before .before .pre .1 .can .whole .shaped, c .before .before .before .before .before .before .before .before .before .before .if1 .left)
+    let at-if1 = c .before .before .before .before .before .before .before .before .before .before in
+    let entry = at-if1 .before .before .before .before .before .before .before .before .before .before .before .before in
+    (entry .pre .1 .can .whole .shaped, at-if1 .if1 .left)
 
 write-entries-sub-write-entries-2 : (t : ℕ) → write-entries-lts.Need-sub-write-entries-2 (said t) (write-entries-at t) write-entries.Post
 write-entries-sub-write-entries-2 t c =
-    not-none _ (c .before .before .before .before .before .before .before .before .before .before .if2 .left)
+    let at-if2 = c .before .before .before .before .before .before .before .before .before .before in
+    not-none _ (at-if2 .if2 .left)
 
 write-entries-write-entries-requires-2 : (t : ℕ) → write-entries-lts.Need-write-entries-requires-2 (said t) (write-entries-at t) write-entries.Post
 write-entries-write-entries-requires-2 t c κs =
-    let set = the-set _ _ _ _ _ _ _ _ _ _ _ (c .before .before .before .before .before .before .before .before .before .before .before .before .before .before .before .before .before .before .before .before .before .before .before .pre .1) (c .before .before .before .before .before .before .before .before .before .before .before .before .before .before .before .set-of .ensures .0) (c .before .before .before .before .before .before .before .before .before .before .before .before .before .before .before .set-of .ensures .1) in (
-      omega (arith, not-none _ (c .before .before .before .before .before .before .before .before .before .before .if2 .left), c .before .before .before .before .before .before .before .before .before .before .before .before .before .before .before .before .before .before .before .before .before .before .before .pre .0),
-      can-one _ _ _ _ _ _ _ _ _ _ _ _ _ _ (one-more _ (c .before .before .before .before .before .before .before .before .before .before .if2 .left)) (c .before .before .before .before .before .before .before .before .before .before .before .before .before .before .before .before .before .before .before .before .before .before .before .pre .1) set (c .before .before .before .before .before .before .before .before .before .before .before .before .before .before .enter .ensures) _ _ _ (c .before .before .before .before .before .before .before .before .hop-or .ensures) (c .before .before .before .before .before .before .child-of .ensures) (c .child-of2 .ensures)
-          _ _ (c .before .before .before .before .before .write-entries .ensures) _ (c .before .before .set-bit .ensures),
-    )
+    let at-set-bit = c .before .before in
+    let at-write-entries = at-set-bit .before .before .before in
+    let at-child-of = at-write-entries .before in
+    let at-hop-or = at-child-of .before .before in
+    let at-if2 = at-hop-or .before .before in
+    let at-enter = at-if2 .before .before .before .before in
+    let at-set-of = at-enter .before in
+    let entry = at-set-of .before .before .before .before .before .before .before .before in
+    let set = the-set _ _ _ _ _ _ _ _ _ _ _ (entry .pre .1) (at-set-of .set-of .ensures .0) (at-set-of .set-of .ensures .1) in
+    (omega (arith, not-none _ (at-if2 .if2 .left), entry .pre .0), can-one _ _ _ _ _ _ _ _ _ _ _ _ _ _ (one-more _ (at-if2 .if2 .left)) (entry .pre .1) set (at-enter .enter .ensures) _ _ _ (at-hop-or .hop-or .ensures) (at-child-of .child-of .ensures) (c .child-of2 .ensures) _ _ (at-write-entries .write-entries .ensures) _ (at-set-bit .set-bit .ensures))
 
 write-entries-returns-3 : (t : ℕ) → write-entries-lts.Need-returns-3 (said t) (write-entries-at t) write-entries.Post
 write-entries-returns-3 t c =
-    let set = the-set _ _ _ _ _ _ _ _ _ _ _ (c .before .before .before .before .before .before .before .before .before .before .before .before .before .before .before .before .before .before .before .before .before .before .before .before .before .before .pre .1) (c .before .before .before .before .before .before .before .before .before .before .before .before .before .before .before .before .before .before .set-of .ensures .0) (c .before .before .before .before .before .before .before .before .before .before .before .before .before .before .before .before .before .before .set-of .ensures .1) in
-    puts-node _ _ _ _ _ _ _ _ _ _ _ _ _ _ (one-more _ (c .before .before .before .before .before .before .before .before .before .before .before .before .before .if2 .left)) (c .before .before .before .before .before .before .before .before .before .before .before .before .before .before .before .before .before .before .before .before .before .before .before .before .before .before .pre .1) set (c .before .before .before .before .before .before .before .before .before .before .before .before .before .before .before .before .before .enter .ensures) _ _ _ (c .before .before .before .before .before .before .before .before .before .before .before .hop-or .ensures) (c .before .before .before .before .before .before .before .before .before .child-of .ensures) (c .before .before .before .child-of2 .ensures)
-    _ _ (c .before .before .before .before .before .before .before .before .write-entries .ensures) _ (c .before .before .before .before .before .set-bit .ensures) _ _ (c .before .before .write-entries2 .ensures)
+    let at-write-entries2 = c .before .before in
+    let at-child-of2 = at-write-entries2 .before in
+    let at-set-bit = at-child-of2 .before .before in
+    let at-write-entries = at-set-bit .before .before .before in
+    let at-child-of = at-write-entries .before in
+    let at-hop-or = at-child-of .before .before in
+    let at-if2 = at-hop-or .before .before in
+    let at-enter = at-if2 .before .before .before .before in
+    let at-set-of = at-enter .before in
+    let entry = at-set-of .before .before .before .before .before .before .before .before in
+    let set = the-set _ _ _ _ _ _ _ _ _ _ _ (entry .pre .1) (at-set-of .set-of .ensures .0) (at-set-of .set-of .ensures .1) in
+    puts-node _ _ _ _ _ _ _ _ _ _ _ _ _ _ (one-more _ (at-if2 .if2 .left)) (entry .pre .1) set (at-enter .enter .ensures) _ _ _ (at-hop-or .hop-or .ensures) (at-child-of .child-of .ensures) (at-child-of2 .child-of2 .ensures) _ _ (at-write-entries .write-entries .ensures) _ (at-set-bit .set-bit .ensures) _ _ (at-write-entries2 .write-entries2 .ensures)
 
 write-entries-same-length-3 : (t : ℕ) → write-entries-lts.Need-same-length-3 (said t) (write-entries-at t) write-entries.Post
 write-entries-same-length-3 t c =
-    puts-length _ (write-entries-returns-3 t c) (c .before .before .before .before .before .before .before .before .before .before .before .before .before .before .before .before .before .before .before .before .before .before .before .before .before .before .pre .1 .room)
+    let entry = c .before .before .before .before .before .before .before .before .before .before .before .before .before .before .before .before .before .before .before .before .before .before .before .before .before .before in
+    puts-length _ (write-entries-returns-3 t c) (entry .pre .1 .room)
 
 pub +write-entries-spec : {M : Type 1} → statement M
 +write-entries-spec = close μ-write-entries λ t. write-entries-lts.spec (said t)

@@ -5,18 +5,14 @@ use Rattle.squeezing.proofs.Entering.{enters-none, can-print, enters-on
 use borrow.Author.Needs.{needs}
 use Rattle.squeezing.proofs.enter.Statement.{statement}
 use Rattle.squeezing.proofs.enter.Tie as tie
-use Rattle.squeezing.proofs.enter.Reads as reads
-use Rattle.squeezing.proofs.enter.Lts as lts
-use Rattle.printing.proofs.put_record.Reads as put-record-reads
-use Rattle.sets.proofs.has.Reads as has-reads
-use Rattle.sets.proofs.least.Reads as least-reads
 
 has-requires : tie.Need-has-requires
 has-requires c κs = search needs
 
 returns : tie.Need-returns
 returns c =
-    enters-none _ _ _ _ _ _ _ _ (c .before .has .ensures) (c .if1 .taken) _ refl refl
+    let entry = c .before .before .before in
+    enters-none _ _ _ _ (entry .args .chosen) _ _ _ (c .before .has .ensures) (c .if1 .taken) _ refl refl
 
 least-requires : tie.Need-least-requires
 least-requires c κs = search needs
@@ -29,7 +25,10 @@ sub-put-record c = search needs
 
 put-record-requires : tie.Need-put-record-requires
 put-record-requires c κs =
-    can-print _ _ _ _ _ _ _ _ (c .before .before .before .has .ensures) (c .before .before .if1 .left) _ (c .before .least .ensures) (c .before .before .before .before .before .pre .0)
+    let at-if1 = c .before .before in
+    let at-has = at-if1 .before in
+    let entry = at-has .before .before in
+    can-print _ _ _ _ (entry .args .chosen) _ _ _ (at-has .has .ensures) (at-if1 .if1 .left) _ (c .before .least .ensures) (entry .pre .0)
 
 add-t13 : tie.Need-add-t13
 add-t13 c = search needs
@@ -42,7 +41,12 @@ same-length c = search needs
 
 returns-2 : tie.Need-returns-2
 returns-2 c =
-    enters-one _ _ _ _ _ _ _ _ (c .before .before .before .before .before .before .has .ensures) (c .before .before .before .before .before .if1 .left) _ (c .before .before .before .before .least .ensures) _ _ (c .before .before .put-record .ensures) refl (omega arith)
+    let at-put-record = c .before .before in
+    let at-least = at-put-record .before .before in
+    let at-if1 = at-least .before in
+    let at-has = at-if1 .before in
+    let entry = c .before .before .before .before .before .before .before .before in
+    enters-one _ _ _ _ (entry .args .chosen) _ _ _ (at-has .has .ensures) (at-if1 .if1 .left) _ (at-least .least .ensures) _ _ (at-put-record .put-record .ensures) refl (omega arith)
 
 pub enter-spec : {M : Type 1} → statement M
 enter-spec =

@@ -4,9 +4,6 @@ use native.Mathlib.Omega.{arith}
 use borrow.Author.Needs.{needs}
 use Rattle.squeezing.proofs.set_of.Statement.{statement}
 use Rattle.squeezing.proofs.set_of.Tie as tie
-use Rattle.squeezing.proofs.set_of.Reads as reads
-use Rattle.squeezing.proofs.set_of.Lts as lts
-use Rattle.sets.proofs.only.Reads as only-reads
 
 mul-result : tie.Need-mul-result
 mul-result c = search needs

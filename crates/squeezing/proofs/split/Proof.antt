@@ -2,9 +2,6 @@ use Rattle.squeezing.proofs.Forming.{met, split-one, split-none}
 use borrow.Author.Needs.{needs}
 use Rattle.squeezing.proofs.split.Statement.{statement}
 use Rattle.squeezing.proofs.split.Tie as tie
-use Rattle.squeezing.proofs.split.Reads as reads
-use Rattle.squeezing.proofs.split.Lts as lts
-use Rattle.sets.proofs.apart.Reads as apart-reads
 
 apart-requires : tie.Need-apart-requires
 apart-requires c κs = search needs

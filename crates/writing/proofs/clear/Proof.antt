@@ -6,8 +6,6 @@ use borrow.Author.Needs.{needs}
 use Rattle.writing.proofs.Clearing.{Cleared, cleared-none, cleared-length, cleared-more, cleared-all}
 use Rattle.writing.proofs.clear.Statement.{statement}
 use Rattle.writing.proofs.clear.Tie as tie
-use Rattle.writing.proofs.clear.Reads as reads
-use Rattle.writing.proofs.clear.Lts as lts
 
 abbrev Inv-loop : tie.InvT-loop
 Inv-loop scratch₀ at₀ scratch at = Cleared scratch₀ scratch at

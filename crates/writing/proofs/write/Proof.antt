@@ -1,85 +1,65 @@
--- Each end of the call is one law of proofs/Steps.
+-- The checks in order, each refusal one law of proofs/Steps; the rest is squeeze's.
+use mathlib.Core.Path.{refl}
 use native.Mathlib.Omega.{arith}
-use Rattle.writing.proofs.Steps.{kept-length, refuse-scratch, refuse-lent, refuse-default, can-form, few-splits, refuse-short, can-write, kept-output, wrote}
+use Rattle.writing.proofs.Steps.{refuse-scratch, refuse-lent, refuse-default, begun}
 use borrow.Author.Needs.{needs}
 use Rattle.writing.proofs.write.Statement.{statement}
 use Rattle.writing.proofs.write.Tie as tie
-use Rattle.writing.proofs.write.Reads as reads
-use Rattle.writing.proofs.write.Lts as lts
-use Rattle.lent.proofs.fault.Reads as fault-reads
-use Rattle.memory.proofs.holds.Reads as holds-reads
-use Rattle.memory.proofs.hop_or.Reads as hop-or-reads
-use Rattle.squeezing.proofs.form_sets.Reads as form-sets-reads
-use Rattle.squeezing.proofs.write_entries.Reads as write-entries-reads
-use Rattle.writing.proofs.clear.Reads as clear-reads
 
 returns : tie.Need-returns
 returns c =
-    refuse-scratch _ _ _ (c .if1 .taken)
+    refuse-scratch _ _ _ _ _ (c .if1 .taken) refl refl
 
 fault-requires : tie.Need-fault-requires
 fault-requires c κs = search needs
 
 returns-2 : tie.Need-returns-2
 returns-2 c =
-    refuse-lent _ _ (c .before .before .if1 .left) _ (c .before .fault .ensures) _ (c .if2 .taken)
+    let at-if1 = c .before .before in
+    refuse-lent _ _ (at-if1 .if1 .left) _ (c .before .fault .ensures) _ (c .if2 .taken)
 
 shared-slice-read-holds : tie.Need-shared-slice-read-holds
 shared-slice-read-holds c =
-    let whole = c .before .before .fault .ensures .fine (c .before .if2 .left) .1 in omega (arith, whole .hops, whole .shaped .some-slot)
+    let at-fault = c .before .before in
+    let whole = at-fault .fault .ensures .fine (c .before .if2 .left) .1 in omega (arith, whole .hops, whole .shaped .some-slot)
 
 holds-requires : tie.Need-holds-requires
 holds-requires c κs = search needs
 
 returns-3 : tie.Need-returns-3
 returns-3 c =
-    refuse-default _ _ (c .before .before .before .before .before .if1 .left) _ (c .before .before .before .before .fault .ensures) (c .before .before .before .if2 .left) _ (c .before .holds .ensures) (c .if3 .taken)
+    let at-if2 = c .before .before .before in
+    let at-fault = at-if2 .before in
+    let at-if1 = at-fault .before in
+    refuse-default _ _ (at-if1 .if1 .left) _ (at-fault .fault .ensures) (at-if2 .if2 .left) (c .before .holds .ensures) _ (c .if3 .taken)
 
 shared-slice-read-hop-or : tie.Need-shared-slice-read-hop-or
 shared-slice-read-hop-or c =
-    let whole = c .before .before .before .before .before .fault .ensures .fine (c .before .before .before .before .if2 .left) .1 in omega (arith, whole .hops, whole .shaped .some-slot)
+    let at-if2 = c .before .before .before .before in
+    let at-fault = at-if2 .before in
+    let whole = at-fault .fault .ensures .fine (at-if2 .if2 .left) .1 in omega (arith, whole .hops, whole .shaped .some-slot)
 
 hop-or-requires : tie.Need-hop-or-requires
 hop-or-requires c κs = search needs
 
-form-sets-requires : tie.Need-form-sets-requires
-form-sets-requires c κs =
-    can-form _ _ (c .before .before .before .before .before .before .before .before .if1 .left) _ (c .before .before .before .before .before .before .before .fault .ensures) (c .before .before .before .before .before .before .if2 .left) (c .before .before .before .before .holds .ensures) (c .before .before .before .if3 .left) _ (c .before .hop-or .ensures)
-
-add-count : tie.Need-add-count
-add-count c =
-    let whole = c .before .before .before .before .before .before .before .before .before .before .before .fault .ensures .fine (c .before .before .before .before .before .before .before .before .before .before .if2 .left) .1 in
-    record { fits = omega (arith, few-splits _ _ (c .before .before .before .before .before .before .before .before .before .before .before .before .if1 .left) _ (c .before .before .before .before .before .before .before .before .before .before .before .fault .ensures) (c .before .before .before .before .before .before .before .before .before .before .if2 .left) (c .before .before .before .before .before .before .before .before .holds .ensures) (c .before .before .before .before .before .before .before .if3 .left) _ (c .before .before .before .before .before .hop-or .ensures) _ _ (c .before .before .before .form-sets .ensures), whole .shaped .few) }
-
-clear-requires : tie.Need-clear-requires
-clear-requires c κs = search needs
+squeeze-requires : tie.Need-squeeze-requires
+squeeze-requires c κs =
+    let at-hop-or = c .before .before in
+    let at-if3 = at-hop-or .before .before in
+    let at-holds = at-if3 .before in
+    let at-if2 = at-holds .before .before in
+    let at-fault = at-if2 .before in
+    let at-if1 = at-fault .before in
+    begun _ _ (at-if1 .if1 .left) _ (at-fault .fault .ensures) (at-if2 .if2 .left) (at-holds .holds .ensures) (at-if3 .if3 .left) _ (at-hop-or .hop-or .ensures)
 
 same-length : tie.Need-same-length
-same-length c =
-    kept-length _ _ _ _ _ _ _ (c .before .before .before .before .before .before .before .before .form-sets .ensures) _ (c .before .before .clear .ensures)
-
-returns-4 : tie.Need-returns-4
-returns-4 c =
-    refuse-short _ _ (c .before .before .before .before .before .before .before .before .before .before .before .before .before .before .before .before .before .if1 .left) _ (c .before .before .before .before .before .before .before .before .before .before .before .before .before .before .before .before .fault .ensures) (c .before .before .before .before .before .before .before .before .before .before .before .before .before .before .before .if2 .left) (c .before .before .before .before .before .before .before .before .before .before .before .before .before .holds .ensures) (c .before .before .before .before .before .before .before .before .before .before .before .before .if3 .left) _ (c .before .before .before .before .before .before .before .before .before .before .hop-or .ensures) _ _ (c .before .before .before .before .before .before .before .before .form-sets .ensures) _ _ (c .before .before .clear .ensures) (c .before .before .before .before .if4 .taken)
-
-write-entries-requires : tie.Need-write-entries-requires
-write-entries-requires c κs =
-    can-write _ _ (c .before .before .before .before .before .before .before .before .before .before .before .before .before .before .before .if1 .left) _ (c .before .before .before .before .before .before .before .before .before .before .before .before .before .before .fault .ensures) (c .before .before .before .before .before .before .before .before .before .before .before .before .before .if2 .left) (c .before .before .before .before .before .before .before .before .before .before .before .holds .ensures) (c .before .before .before .before .before .before .before .before .before .before .if3 .left) _ (c .before .before .before .before .before .before .before .before .hop-or .ensures) _ _ (c .before .before .before .before .before .before .form-sets .ensures) _ (c .before .before .if4 .left)
-
-clear-requires-2 : tie.Need-clear-requires-2
-clear-requires-2 c κs = search needs
+same-length c = search needs
 
 same-length-2 : tie.Need-same-length-2
-same-length-2 c =
-    kept-length _ _ _ _ _ _ _ (c .before .before .before .before .before .before .before .before .before .before .before .before .before .form-sets .ensures) _ (c .before .before .clear2 .ensures)
+same-length-2 c = search needs
 
-same-length-3 : tie.Need-same-length-3
-same-length-3 c =
-    kept-output _ _ (c .before .before .before .before .before .before .before .before .before .before .before .before .before .before .before .before .before .before .before .before .before .before .if1 .left) _ (c .before .before .before .before .before .before .before .before .before .before .before .before .before .before .before .before .before .before .before .before .before .fault .ensures) (c .before .before .before .before .before .before .before .before .before .before .before .before .before .before .before .before .before .before .before .before .if2 .left) (c .before .before .before .before .before .before .before .before .before .before .before .before .before .before .before .before .before .before .holds .ensures) (c .before .before .before .before .before .before .before .before .before .before .before .before .before .before .before .before .before .if3 .left) _ (c .before .before .before .before .before .before .before .before .before .before .before .before .before .before .before .hop-or .ensures) _ _ (c .before .before .before .before .before .before .before .before .before .before .before .before .before .form-sets .ensures) _ (c .before .before .before .before .before .before .before .before .before .if4 .left) _ _ (c .before .before .before .before .before .before .write-entries .ensures)
-
-returns-5 : tie.Need-returns-5
-returns-5 c =
-    wrote _ _ (c .before .before .before .before .before .before .before .before .before .before .before .before .before .before .before .before .before .before .before .before .before .before .if1 .left) _ (c .before .before .before .before .before .before .before .before .before .before .before .before .before .before .before .before .before .before .before .before .before .fault .ensures) (c .before .before .before .before .before .before .before .before .before .before .before .before .before .before .before .before .before .before .before .before .if2 .left) (c .before .before .before .before .before .before .before .before .before .before .before .before .before .before .before .before .before .before .holds .ensures) (c .before .before .before .before .before .before .before .before .before .before .before .before .before .before .before .before .before .if3 .left) _ (c .before .before .before .before .before .before .before .before .before .before .before .before .before .before .before .hop-or .ensures) _ _ (c .before .before .before .before .before .before .before .before .before .before .before .before .before .form-sets .ensures) _ (c .before .before .before .before .before .before .before .before .before .if4 .left) _ _ _ (c .before .before .before .before .before .before .write-entries .ensures) (c .before .before .clear2 .ensures)
+returns-4 : tie.Need-returns-4
+returns-4 c = search needs
 
 pub write-spec : {M : Type 1} → statement M
 write-spec =
@@ -93,13 +73,7 @@ write-spec =
     returns-3
     shared-slice-read-hop-or
     hop-or-requires
-    form-sets-requires
-    add-count
-    clear-requires
+    squeeze-requires
     same-length
-    returns-4
-    write-entries-requires
-    clear-requires-2
     same-length-2
-    same-length-3
-    returns-5)
+    returns-4)
