@@ -1,9 +1,6 @@
 // The cases A to O of document 01.
-use crate::trial::ONES;
 use crate::trial::WRITE;
-use crate::trial::run;
 use crate::trial::trial;
-use crate::written::Lent;
 use crate::written::ROOM;
 use telling::change::LOOK;
 use telling::change::announce;

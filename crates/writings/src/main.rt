@@ -3,7 +3,7 @@
 // document 01 without this code.
 mod cases; // cases.rt: the cases A to O
 mod memories; // memories.rt: memory that our calls did not make
-mod runs; // runs.rt: pseudo-random runs of changes
+mod runs; // runs.rt: runs of changes that are made by rule
 mod slices; // slices.rt: slices that are lent in wrong or extreme lengths
 mod trial; // trial.rt: a run of changes in fresh memory, with writings between them
 mod written; // written.rt: a writing, told with what it left

@@ -1,5 +1,4 @@
 // Memory that our calls did not make: where `up[0]` is in range it is some ledger, and the table is that ledger's.
-ghost use Prim.Native.Nat.{_<_};
 use crate::trial::ONES;
 use crate::trial::WRITE;
 use crate::trial::run;
@@ -24,12 +23,17 @@ fn lent(words: usize) -> Lent {
 }
 
 // The ledger is looked at and written; then a route is announced, where there is room, and it is written again.
+fn try_memory(lo: &mut [u32], hi: &mut [u32], up: &mut [u32], hop: &mut [u32]) {
+    let changes = [LOOK, WRITE, announce(0x80000000, 1, 11), WRITE];
+    let slots = up.len();
+    run(lo, hi, up, hop, &changes, lent(slots));
+}
+
 fn four(title: &[u8], lo: &mut [u32; 4], hi: &mut [u32; 4], up: &mut [u32; 4], hop: &mut [u32; 4]) {
     say(b"-- 4 slots: ");
     say(title);
     say(b"\n");
-    let changes = [LOOK, WRITE, announce(0x80000000, 1, 11), WRITE];
-    run(lo, hi, up, hop, &changes, lent(4));
+    try_memory(lo, hi, up, hop);
 }
 
 fn own_child() {
@@ -74,7 +78,7 @@ fn child_of_two() {
     );
 }
 
-// Stored hops: 0 and 65 and more are none, and neither is 0 stored as 1. Slots 1 to 3 are 0*, 1* and 00*.
+// Slots 1 to 3 are 0*, 1* and 00*, and what is stored there stands for no hop: hop 65, hop 0, and the highest word.
 fn stored(title: &[u8], default: u32) {
     let mut lo = [1u32, 3, 0, 0];
     let mut hi = [2u32, 0, 0, 0];
@@ -83,7 +87,7 @@ fn stored(title: &[u8], default: u32) {
     four(title, &mut lo, &mut hi, &mut up, &mut hop);
 }
 
-// Ones in every slot, but for the first mark.
+// Ones everywhere but in `up[0]`.
 fn filled(mark: u32) {
     let cells = [HIGHEST_WORD; 12];
     let mut up = [HIGHEST_WORD; 12];
@@ -96,7 +100,7 @@ fn filled(mark: u32) {
     write(&cells, &cells, &up, &cells, lent(12));
 }
 
-// Words below the bounds in each slice, and no free slot named.
+// Small words, likely to be links, marks and hops.
 fn scattered(seed: u32) {
     let mut lo = [0u32; 8];
     let mut hi = [0u32; 8];
@@ -109,8 +113,7 @@ fn scattered(seed: u32) {
     let behind_hi = scatter(&mut hi, behind_lo, 8);
     let behind_up = scatter(&mut up, behind_hi, 9);
     scatter(&mut hop, behind_up, 7);
-    let changes = [LOOK, WRITE, announce(0x80000000, 1, 11), WRITE];
-    run(&mut lo, &mut hi, &mut up, &mut hop, &changes, lent(8));
+    try_memory(&mut lo, &mut hi, &mut up, &mut hop);
 }
 
 pub fn memories() {
@@ -127,6 +130,7 @@ pub fn memories() {
     );
     stored(b"the default route's hop is stored as 1, which is none", 1);
     scattered(1);
+    // Seeds with links that count: five routes, of which two to five are written.
     scattered(265776);
     scattered(235148);
     scattered(215029);

@@ -1,5 +1,4 @@
 // Runs of changes that are made by rule: pseudo-random ones, every hop at once, and every length at once.
-ghost use Prim.Native.Nat.{_<_};
 use crate::trial::WRITE;
 use crate::trial::trial;
 use crate::written::MOST_ROOM;

@@ -32,7 +32,7 @@ fn say_lengths(lengths: Lengths, lent: Lent) {
     say(b"\n");
 }
 
-// A route on each side of the default route's first bit; the table has all three.
+// The ledger of case I, whose table has all three routes.
 fn odd(lengths: Lengths, words: usize, fill: u64) {
     let lent = Lent {
         words,
@@ -63,7 +63,7 @@ fn scratches() {
     odd(same_lengths(0), 0, ONES);
 }
 
-fn memories() {
+fn slots() {
     one_shorter(5, 6, 6, 6);
     one_shorter(6, 5, 6, 6);
     one_shorter(6, 6, 5, 6);
@@ -116,7 +116,7 @@ fn too_many_slots() {
 
 pub fn slices() {
     scratches();
-    memories();
+    slots();
     outputs();
     most_slots();
     too_many_slots();

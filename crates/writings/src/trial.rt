@@ -12,6 +12,7 @@ pub const WRITE: u64 = 0xFFFFFFFFFFFFFFFE;
 // A scratch is full of ones before a writing, unless a trial says something else.
 pub const ONES: u64 = 0xFFFFFFFFFFFFFFFF;
 
+// A record is applied, or the ledger is looked at or written.
 fn go(lo: &mut [u32], hi: &mut [u32], up: &mut [u32], hop: &mut [u32], change: u64, lent: Lent) {
     if change == WRITE {
         write(lo, hi, up, hop, lent);
@@ -20,6 +21,7 @@ fn go(lo: &mut [u32], hi: &mut [u32], up: &mut [u32], hop: &mut [u32], change: u
     telling::tried::go(lo, hi, up, hop, change);
 }
 
+// Changes are tried one after the other.
 pub fn run(
     lo: &mut [u32],
     hi: &mut [u32],

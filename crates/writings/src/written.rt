@@ -8,10 +8,8 @@ use numbers::RECORD;
 use telling::change::record_at;
 use telling::change::say_change;
 use telling::text::say;
-use telling::text::say_address;
 use telling::text::say_count;
-use telling::text::say_found;
-use telling::text::say_number;
+use telling::text::say_refused;
 use telling::tried::apply_list;
 use telling::tried::look_around;
 use telling::tried::look_around_list;
@@ -28,6 +26,16 @@ pub const ROOM: usize = 64;
 // What a byte of the output is before the call.
 pub const BLANK: u8 = 238;
 
+// The lesser of two numbers.
+pub fn least(a: usize, b: usize) -> usize
+    ensures { λ r. ⌜ (r ≤ a) × (r ≤ b) ⌝ }
+{
+    if a < b {
+        return a;
+    }
+    b
+}
+
 fn say_wrote(answer: Wrote) {
     match answer {
         Wrote::Table { count } => {
@@ -35,8 +43,7 @@ fn say_wrote(answer: Wrote) {
             say_count(count);
         }
         Wrote::Refused { number, count } => {
-            say(b"refused ");
-            say_number(number as u64);
+            say_refused(number);
             say(b", count ");
             say_count(count);
         }
@@ -57,16 +64,6 @@ fn table_bytes(answer: Wrote, output: &[u8]) -> usize
             count: _,
         } => 0,
     }
-}
-
-// The lesser of two numbers.
-pub fn least(a: usize, b: usize) -> usize
-    ensures { λ r. ⌜ (r ≤ a) × (r ≤ b) ⌝ }
-{
-    if a < b {
-        return a;
-    }
-    b
 }
 
 fn same(a: &[u8], b: &[u8]) -> bool {
@@ -202,6 +199,7 @@ pub struct Lent {
     pub room: usize,
 }
 
+// The ledger is written, and what is lent beside it lasts for that call.
 pub fn write(lo: &[u32], hi: &[u32], up: &[u32], hop: &[u32], lent: Lent) {
     let fill = lent.fill;
     let words = least(lent.words, SLOTS);
