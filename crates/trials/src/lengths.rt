@@ -1,12 +1,12 @@
 // How many slots are lent, and slices that differ.
-use crate::change::LOOK;
-use crate::change::announce;
-use crate::change::withdraw;
-use crate::text::say;
-use crate::text::say_count;
-use crate::tried::apply_list;
-use crate::tried::look_around;
-use crate::tried::run;
+use telling::change::LOOK;
+use telling::change::announce;
+use telling::change::withdraw;
+use telling::text::say;
+use telling::text::say_count;
+use telling::tried::apply_list;
+use telling::tried::look_around;
+use telling::tried::run;
 
 fn say_lengths(lo: usize, hi: usize, up: usize, hop: usize) {
     say(b"-- lo ");

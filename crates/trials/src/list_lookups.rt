@@ -1,15 +1,15 @@
 // Lookup in a record list.
-use crate::change::announce;
-use crate::change::record;
-use crate::change::say_change;
-use crate::change::withdraw;
 use crate::list_of_five::LIST;
 use crate::list_of_five::put;
 use crate::list_of_five::put_good;
-use crate::text::say;
-use crate::text::say_count;
-use crate::tried::look_in_first;
-use crate::tried::look_in_list;
+use telling::change::announce;
+use telling::change::record;
+use telling::change::say_change;
+use telling::change::withdraw;
+use telling::text::say;
+use telling::text::say_count;
+use telling::tried::look_in_first;
+use telling::tried::look_in_list;
 
 // Where a record is refused no address has a hop, so any will do.
 fn look_in_five(list: &[u8; LIST]) {

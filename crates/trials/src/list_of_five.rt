@@ -1,7 +1,7 @@
 // A list of five records in lent bytes.
-use crate::change::announce;
-use crate::change::bytes_of;
 use numbers::RECORD;
+use telling::change::announce;
+use telling::change::bytes_of;
 
 // Its records, and its bytes.
 const PLACES: usize = 5;

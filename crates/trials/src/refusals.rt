@@ -1,17 +1,17 @@
 // Updates with a list of five records of which one is refused: at the first, at a middle and at the last place.
 ghost use Prim.Native.Nat.{_<_};
-use crate::change::announce;
-use crate::change::record;
-use crate::change::say_change;
-use crate::change::withdraw;
 use crate::list_of_five::LIST;
 use crate::list_of_five::put;
 use crate::list_of_five::put_good;
-use crate::text::say;
-use crate::text::say_count;
-use crate::tried::apply_list;
-use crate::tried::look_around;
 use numbers::RECORD;
+use telling::change::announce;
+use telling::change::record;
+use telling::change::say_change;
+use telling::change::withdraw;
+use telling::text::say;
+use telling::text::say_count;
+use telling::tried::apply_list;
+use telling::tried::look_around;
 
 // Just the slots that the good list needs.
 const SLOTS: usize = 10;

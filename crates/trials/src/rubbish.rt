@@ -1,13 +1,14 @@
 // Memory that our calls did not make: where `up[0]` is in range it is some ledger, and every call treats it as that ledger.
 ghost use Prim.Native.Nat.{_<_};
-use crate::change::LOOK;
-use crate::change::announce;
-use crate::change::withdraw;
-use crate::text::say;
-use crate::text::say_number;
-use crate::tried::apply_list;
-use crate::tried::look_around;
-use crate::tried::run;
+use telling::change::LOOK;
+use telling::change::announce;
+use telling::change::withdraw;
+use telling::text::say;
+use telling::text::say_number;
+use telling::tried::apply_list;
+use telling::tried::look_around;
+use telling::tried::run;
+use telling::words::scatter;
 
 const HIGHEST_WORD: u32 = 0xFFFFFFFF;
 
@@ -53,27 +54,6 @@ fn filled() {
     let mut hop = [HIGHEST_WORD; 12];
     no_ledger(&mut lo, &mut hi, &mut up, &mut hop);
     empty_ledger(&mut lo, &mut hi, &mut up, &mut hop);
-}
-
-// The word behind another in a pseudo-random sequence: Marsaglia's xorshift of 32 bits, by 13, 17 and 5.
-fn next_word(word: u32) -> u32 {
-    let once = word ^ (word << 13);
-    let twice = once ^ (once >> 17);
-    twice ^ (twice << 5)
-}
-
-// Pseudo-random words below a bound; the answer is the sequence's last word, to go on from.
-fn scatter(cells: &mut [u32], seed: u32, bound: u32) -> u32
-    requires { ⌜ 0 < bound ⌝ }
-{
-    let mut word = seed;
-    let mut i: usize = 0;
-    while i < cells.len() {
-        word = next_word(word);
-        cells[i] = word % bound;
-        i += 1;
-    }
-    word
 }
 
 // Three routes, which need all six slots, are announced and withdrawn, whatever else is held.

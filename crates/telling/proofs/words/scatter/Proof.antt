@@ -1,11 +1,11 @@
--- `trials::rubbish::scatter` is safe and ends: it goes over the slice once, whose length stays.
+-- `telling::words::scatter` is safe and ends: it goes over the slice once, whose length stays.
 use Prim.Native.Nat.{_≤_, _-_}
 use mathlib.Core.Path.{_≡_}
 use native.Mathlib.Omega.{arith}
 use borrow.Author.Needs.{needs}
 use lib.ListN.{length, length-set}
-use Rattle.trials.proofs.rubbish.scatter.Statement.{statement}
-use Rattle.trials.proofs.rubbish.scatter.Tie as tie
+use Rattle.telling.proofs.words.scatter.Statement.{statement}
+use Rattle.telling.proofs.words.scatter.Tie as tie
 
 abbrev Inv-loop : tie.InvT-loop
 Inv-loop cells₀ seed bound word₀ i₀ cells word i = (i ≤ length cells) × (length cells ≡ length cells₀)

@@ -4,8 +4,8 @@ use mathlib.Core.Path.{_≡_, refl, _∙_}
 use Prim.Native.Nat.{_-_}
 use native.Mathlib.Omega.{arith}
 use lib.ListN.{length}
-use Rattle.trials.proofs.tried.run.Statement.{statement}
-use Rattle.trials.proofs.tried.run.Tie as tie
+use Rattle.telling.proofs.tried.run.Statement.{statement}
+use Rattle.telling.proofs.tried.run.Tie as tie
 
 abbrev Inv-loop : tie.InvT-loop
 Inv-loop lo₀ hi₀ up₀ hop₀ changes i₀ lo hi up hop i = (length lo ≡ length lo₀) × (length hi ≡ length hi₀) × (length up ≡ length up₀) × (length hop ≡ length hop₀)

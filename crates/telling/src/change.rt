@@ -1,12 +1,16 @@
 // A record, good or bad, as the number that its 8 bytes are, high byte first.
 ghost use mathlib.Core.Path.{_≡_};
+ghost use Prim.Native.Nat.{_+_, _<_, _≤_};
 ghost use lib.ListN.{length};
 use crate::text::say;
 use crate::text::say_address;
 use crate::text::say_number;
+use numbers::ACTION_AT;
 use numbers::ANNOUNCE;
+use numbers::HOP_AT;
 use numbers::NO_HOP;
 use numbers::RECORD;
+use numbers::SIZE_AT;
 use numbers::WITHDRAW;
 
 // In a run of changes, not a record: look around.
@@ -41,6 +45,32 @@ pub fn bytes_of(change: u64) -> [u8; RECORD]
         (change / 256 % 256) as u8,
         (change % 256) as u8,
     ]
+}
+
+fn wide(byte: u8) -> u32
+    ensures { λ r. ⌜ r < 256 ⌝ }
+{
+    byte as u32
+}
+
+// The number of two bytes, high byte first.
+fn two_bytes(list: &[u8], at: usize) -> u32
+    requires { ⌜ at + 2 ≤ length (now list) ⌝ }
+    ensures { λ r. ⌜ r < 65536 ⌝ }
+{
+    wide(list[at]) * 256 + wide(list[at + 1])
+}
+
+// The record that stands in a list at a place in bytes.
+pub fn record_at(list: &[u8], at: usize) -> u64
+    requires { ⌜ at + 8 ≤ length (now list) ⌝ }
+{
+    record(
+        two_bytes(list, at) * 65536 + two_bytes(list, at + 2),
+        list[at + SIZE_AT],
+        list[at + ACTION_AT],
+        two_bytes(list, at + HOP_AT) as u16,
+    )
 }
 
 fn say_action(action: u8) {

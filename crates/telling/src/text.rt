@@ -31,6 +31,11 @@ pub fn say_address(address: u32) {
     say_dotted(address, 1);
 }
 
+pub fn say_refused(number: u32) {
+    say(b"refused ");
+    say_number(number as u64);
+}
+
 // An update's answer: complete or the number, and the count.
 pub fn say_updated(answer: Updated) {
     match answer {
@@ -39,8 +44,7 @@ pub fn say_updated(answer: Updated) {
             say_count(count);
         }
         Updated::Refused { number, count } => {
-            say(b"refused ");
-            say_number(number as u64);
+            say_refused(number);
             say(b", count ");
             say_count(count);
         }
@@ -55,8 +59,7 @@ pub fn say_found(answer: Found) {
             say_number(hop as u64);
         }
         Found::Refused { number, place } => {
-            say(b"refused ");
-            say_number(number as u64);
+            say_refused(number);
             say(b", place ");
             say_count(place);
         }

@@ -41,8 +41,26 @@ pub fn look_around(lo: &[u32], hi: &[u32], up: &[u32], hop: &[u32]) {
     say(b"\n");
 }
 
+fn look_once(list: &[u8], address: u32) {
+    say(b"; ");
+    say_address(address);
+    say(b" ");
+    say_found(lists::lookup_list(list, address));
+}
+
+// A list at the same addresses.
+pub fn look_around_list(list: &[u8]) {
+    say(b"    in list");
+    look_once(list, 0);
+    look_once(list, 0x40000000);
+    look_once(list, 0x80000000);
+    look_once(list, 0xC0000000);
+    look_once(list, 0xFFFFFFFF);
+    say(b"\n");
+}
+
 // A record is applied, or the ledger is looked at.
-fn go(lo: &mut [u32], hi: &mut [u32], up: &mut [u32], hop: &mut [u32], change: u64) {
+pub fn go(lo: &mut [u32], hi: &mut [u32], up: &mut [u32], hop: &mut [u32], change: u64) {
     if change == LOOK {
         look_around(lo, hi, up, hop);
         return;

@@ -1,0 +1,65 @@
+"""The smallest table of a ledger, by document 01's definition on bit strings, and two other ways to its count."""
+from functools import cache
+from itertools import product
+
+
+def strings(routes):
+    """The strings that have a held route below them, and the hop of a string that has none: it has that hop throughout."""
+    def hop(string):
+        return next(routes[string[:k]] for k in range(len(string), -1, -1) if string[:k] in routes)
+    return {prefix[:k] for prefix in routes for k in range(len(prefix))}, hop
+
+
+def smallest(routes):
+    """Pairs of a string and a hop, by address and then by length. A route of length 0 is held."""
+    inner, hop = strings(routes)
+
+    @cache
+    def hops(string):
+        if string not in inner:
+            return {hop(string)}
+        zero, one = hops(string + "0"), hops(string + "1")
+        return zero & one or zero | one
+
+    entries = []
+
+    def down(string, above):
+        if above not in hops(string):
+            above = min(hops(string))
+            entries.append((string, above))
+        if string in inner:
+            down(string + "0", above)
+            down(string + "1", above)
+
+    down("", None)
+    return sorted(entries, key=lambda entry: (entry[0].ljust(32, "0"), len(entry[0])))
+
+
+def fewest(routes):
+    """The least count of any table that agrees: each string is tried with no entry and with an entry of every hop."""
+    inner, hop = strings(routes)
+
+    @cache
+    def cost(string, above):
+        if string not in inner:
+            return int(hop(string) != above)
+        return min(cost(string + "0", h) + cost(string + "1", h) + int(h != above) for h in {above} | set(routes.values()))
+
+    return cost("", None)
+
+
+def by_force():
+    """Of all tables of width 2 with the hops 1 to 3, those that answer every address: none that agrees has fewer entries."""
+    prefixes = ["", "0", "1", "00", "01", "10", "11"]
+    least, tables = {}, []
+    for hops in product((0, 1, 2, 3), repeat=len(prefixes)):
+        table = {prefix: hop for prefix, hop in zip(prefixes, hops) if hop}
+        answers = tuple(next((table[a[:k]] for k in (2, 1, 0) if a[:k] in table), 0) for a in prefixes[3:])
+        least[answers] = min(least.get(answers, 9), len(table))
+        if "" in table:
+            tables.append((table, answers))
+    for table, answers in tables:
+        written = smallest(table)
+        routes = dict(written)
+        assert answers == tuple(next(routes[a[:k]] for k in (2, 1, 0) if a[:k] in routes) for a in prefixes[3:]), table
+        assert len(written) == least[answers] == fewest(table), table
