@@ -11,7 +11,7 @@ use borrow.Author.Tests.{eqb-true, eqb-false}
 use Rattle.theory.specs.Bits.{Each}
 use Rattle.theory.specs.Ledger.{Ledger, isHeld, nothing}
 use Rattle.theory.proofs.Hops.{by-test}
-use Rattle.rules.specs.Numbers.{ipv4, width, recordBytes, mostSlots}
+use Rattle.rules.specs.Numbers.{ipv4, width, recordBytes, mostSlots, scratchWords}
 use Rattle.rules.specs.Plain.{updated}
 use Rattle.rules.specs.Lookup.{hopOf}
 use Rattle.rules.specs.Writing.{smallestTable}
@@ -109,8 +109,8 @@ history n some-slot few asks m replies (next {asks = before} {m = m₀} {replies
 pub history-writes : (n : ℕ) → 0 < n → n ≤ mostSlots → (asks : List Ask) (m : Memory) (replies : List Reply) → Run n asks m replies
     → isHeld (plainLedger n nothing asks []) ≡ true
     → (scratch output scratch' output' : List ℕ) (r : Wrote) → Writes m scratch output scratch' output' r
-    → length scratch ≡ n → bytesFor (smallestTable ipv4 (plainLedger n nothing asks)) ≤ length output
-    → WritesSmallest (plainLedger n nothing asks) n output scratch' output' r
+    → length scratch ≡ scratchWords n → bytesFor (smallestTable ipv4 (plainLedger n nothing asks)) ≤ length output
+    → WritesSmallest (plainLedger n nothing asks) (scratchWords n) output scratch' output' r
 history-writes n some-slot few asks m replies run default scratch output scratch' output' r meets sized room =
     let after = history n some-slot few asks m replies run in
     let same : ledgerOf (width ipv4) m ≡ plainLedger n nothing asks = after .ledger in

@@ -6,7 +6,7 @@ use Prim.Native.Nat.{ℕ}
 use lib.Dec.{eqb}
 use lib.ListN.{length}
 use Rattle.theory.specs.Ledger.{Ledger}
-use Rattle.rules.specs.Numbers.{ipv4, badSlices}
+use Rattle.rules.specs.Numbers.{ipv4, scratchWords, badSlices}
 use Rattle.rules.specs.Plain.{updated}
 use Rattle.rules.specs.Lookup.{Answer, hopOf, lookedUp}
 use Rattle.rules.specs.Writing.{written}
@@ -37,7 +37,7 @@ plainReply n L (updating list) = updated-so (reported (updated ipv4 n L list))
 plainReply n L (looking-up x) = found-so (record { refusal = none; hop = hopOf ipv4 L x; place = 0 })
 plainReply n L (looking-up-in list x) = found-so (lookedUp ipv4 list x)
 plainReply n L (writing scratch output) =
-    wrote-so (cond (eqb (length scratch) n) (writtenInto (written ipv4 L) scratch output) (unchanged badSlices scratch output))
+    wrote-so (cond (eqb (length scratch) (scratchWords n)) (writtenInto (written ipv4 L) scratch output) (unchanged badSlices scratch output))
 
 abbrev pub plainAfter : ℕ → Ledger ℕ → Ask → Ledger ℕ
 plainAfter n L (updating list) = updated ipv4 n L list .ledger

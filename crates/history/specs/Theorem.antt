@@ -7,7 +7,7 @@ use Prim.Native.Nat.{ℕ, _*_, _≤_, _<_}
 use lib.ListN.{length, drop}
 use Rattle.theory.specs.Bits.{Each}
 use Rattle.theory.specs.Ledger.{Ledger, Entry, nothing, held, load}
-use Rattle.rules.specs.Numbers.{ipv4, width, recordBytes, mostSlots, noLedger}
+use Rattle.rules.specs.Numbers.{ipv4, width, recordBytes, mostSlots, scratchWords, noLedger}
 use Rattle.rules.specs.Lookup.{hopOf, scanned, AnswersAs}
 use Rattle.rules.specs.Plain.{needs}
 use Rattle.rules.specs.Writing.{smallestTable, ForwardsAs}
@@ -56,15 +56,15 @@ pub record IsSmallest (L : Ledger ℕ) (count : ℕ) (bytes : List ℕ) : Type 0
   pub again : (n : ℕ) → needs (width ipv4) (load (smallestTable ipv4 L)) ≤ n → n ≤ mostSlots
       → (m : Memory) (u : Updated) → Updates (zeroed n) bytes m u
       → (scratch output scratch' output' : List ℕ) (r : Wrote) → Writes m scratch output scratch' output' r
-      → length scratch ≡ n → length bytes ≤ length output
+      → length scratch ≡ scratchWords n → length bytes ≤ length output
       → (r ≡ Table count) × (output' ≡ bytes ++ drop (length bytes) output)
 
 -- WRITING SUCCEEDS: the count is answered, the smallest table's bytes stand in front of the output, every byte behind them is as it
 -- was, and the scratch is zero
-pub record WritesSmallest (L : Ledger ℕ) (n : ℕ) (output scratch' output' : List ℕ) (r : Wrote) : Type 0 where
+pub record WritesSmallest (L : Ledger ℕ) (words : ℕ) (output scratch' output' : List ℕ) (r : Wrote) : Type 0 where
   pub count : ℕ
   pub bytes : List ℕ
   pub answer : r ≡ Table count
   pub written : output' ≡ bytes ++ drop (length bytes) output
-  pub scratch-zero : scratch' ≡ zeros n
+  pub scratch-zero : scratch' ≡ zeros words
   pub smallest : IsSmallest L count bytes

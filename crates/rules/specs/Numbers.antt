@@ -36,6 +36,10 @@ noRoute = 0
 abbrev pub mostSlots : ℕ
 mostSlots = 65536
 
+-- the words of scratch that writing asks for: one u64 a slot
+abbrev pub scratchWords : ℕ → ℕ
+scratchWords slots = slots
+
 -- The refusals, by the paper's numbers.
 abbrev pub badSlices : ℕ
 badSlices = 1

@@ -1,2 +1,3 @@
 pub mod Words
 pub mod Looking
+pub mod Members

@@ -1,20 +1,20 @@
--- How a word holds a set's members: each operation on words is one on sets. Digit k of a word stands for hop k + 1, and a word
+-- How a word holds a set's wordMembers: each operation on words is one on sets. Digit k of a word stands for hop k + 1, and a word
 -- has as many digits as there are hops, so that it is below 2 ^ highestHop.
 use mathlib.Core.Path.{_≡_, refl, sym, ap, ap₂, fun-ext, _∙_}
 use mathlib.Core.Logic.{inl, inr}
 use mathlib.Core.Bool.{Bool, Bool·not-not, true, false, not, cond, _&&_, _||_}
 use Prim.Native.Nat.{ℕ, zero, suc, _-_, _*_, _/_, _%_, _^_, _≤_, _<_}
 use native.Mathlib.Omega.{arith}
-use native.Mathlib.Nat.{div-one, zero-div, div-eq-of-lt, lt-of-lt-of-le}
+use native.Mathlib.Nat.{div-one, zero-div}
 use native.Mathlib.Numerals.{add-one, one-add, sub-one}
-use lib.Dec.{eqb, ltb, eqb·zero-suc, eqb·suc-zero, eqb·suc-suc}
+use lib.Dec.{eqb, eqb·zero-suc, eqb·suc-zero, eqb·suc-suc}
 use lib.Bits.{bitAnd, bitOr, and-le-l, and-shr, or-shr, and-mod, or-mod, shifted-half, shifted-even}
-use lib.Pow.{pow-mono, shr-shr, shr-lt, shl-exact}
-use borrow.Author.Tests.{eqb-true, eqb-false, ne-eqb, ltb-true, ltb-false, not-true, not-false}
-use Rattle.theory.specs.Hops.{only, some-below, least, common, union, join}
-use Rattle.theory.proofs.Hops.{by-test, never, join-apart, join-meets}
+use lib.Pow.{shr-shr, shr-lt, shl-exact}
+use borrow.Author.Tests.{eqb-true, eqb-false, ne-eqb, not-true, not-false}
+use Rattle.theory.specs.Hops.{only, some-below, common, union, join}
+use Rattle.theory.proofs.Hops.{by-test, join-apart, join-meets}
 use Rattle.rules.specs.Numbers.{lowestHop, highestHop, hopBound}
-use Rattle.sets.specs.Sets.{members}
+use Rattle.sets.specs.Sets.{wordMembers}
 
 -- the digit of weight 2 ^ k, as a test: the lowest one, those above it, and back as a number
 abbrev digit : ℕ → ℕ → Bool
@@ -34,13 +34,13 @@ as-digit x =
     ]
 
 -- A hop's digit tells whether it is a member; no hop below the lowest one is.
-pub member-digit : (x h : ℕ) → lowestHop ≤ h → eqb (x / 2 ^ (h - 1) % 2) 1 ≡ members x h
-unfolding members
+pub member-digit : (x h : ℕ) → lowestHop ≤ h → eqb (x / 2 ^ (h - 1) % 2) 1 ≡ wordMembers x h
+unfolding wordMembers
 member-digit x zero l = absurd (omega arith)
 member-digit x (suc k) l = ap (digit x) (sub-one (suc k))
 
-pub no-member : (x h : ℕ) → h < lowestHop → false ≡ members x h
-unfolding members
+pub no-member : (x h : ℕ) → h < lowestHop → false ≡ wordMembers x h
+unfolding wordMembers
 no-member x zero l = refl
 no-member x (suc k) l = absurd (omega arith)
 
@@ -56,8 +56,8 @@ module _ (op : ℕ → ℕ → ℕ) (test : Bool → Bool → Bool)
       let y = b / 2 ^ k in
       ap (λ q. eqb q 1) (ap (λ q. q % 2) (shifted a b k) ∙ cut x y 1 ∙ ap₂ op (as-digit x) (as-digit y)) ∙ on-digits (digit a k) (digit b k)
 
-  member-of : (a b h : ℕ) → members (op a b) h ≡ test (members a h) (members b h)
-  unfolding members
+  member-of : (a b h : ℕ) → wordMembers (op a b) h ≡ test (wordMembers a h) (wordMembers b h)
+  unfolding wordMembers
   member-of a b zero = sym on-none
   member-of a b (suc k) = digit-of a b k
 
@@ -73,10 +73,10 @@ either-set false true = refl
 either-set true false = refl
 either-set true true = refl
 
-members-and : (a b : ℕ) → members (bitAnd a b) ≡ common (members a) (members b)
+members-and : (a b : ℕ) → wordMembers (bitAnd a b) ≡ common (wordMembers a) (wordMembers b)
 members-and a b = fun-ext (member-of bitAnd (λ p q. p && q) and-shr and-mod both-set refl a b)
 
-members-or : (a b : ℕ) → members (bitOr a b) ≡ union (members a) (members b)
+members-or : (a b : ℕ) → wordMembers (bitOr a b) ≡ union (wordMembers a) (wordMembers b)
 members-or a b = fun-ext (member-of bitOr (λ p q. p || q) or-shr or-mod either-set refl a b)
 
 -- A POWER OF TWO has the one member.
@@ -87,14 +87,14 @@ digit-of-power (suc j) zero = lowest-digit (1 * 2 ^ suc j) ∙ ap (λ q. eqb q 1
 digit-of-power (suc j) (suc k) =
     higher-digit (1 * 2 ^ suc j) k ∙ ap (λ x. digit x k) (shifted-half 1 j) ∙ digit-of-power j k ∙ sym (eqb·suc-suc k j)
 
-member-of-power : (j h : ℕ) → members (1 * 2 ^ j) h ≡ only (suc j) h
-unfolding members
+member-of-power : (j h : ℕ) → wordMembers (1 * 2 ^ j) h ≡ only (suc j) h
+unfolding wordMembers
 member-of-power j zero = sym (eqb·zero-suc j)
 member-of-power j (suc k) = digit-of-power j k ∙ sym (eqb·suc-suc k j)
 
-pub one-member : (h : ℕ) → lowestHop ≤ h → h ≤ highestHop → members (1 * 2 ^ (h - 1) % 2 ^ highestHop) ≡ only h
+pub one-member : (h : ℕ) → lowestHop ≤ h → h ≤ highestHop → wordMembers (1 * 2 ^ (h - 1) % 2 ^ highestHop) ≡ only h
 one-member zero l m = absurd (omega arith)
-one-member (suc j) l m = rw (sub-one (suc j)) (ap members (shl-exact 1 j highestHop (omega arith) (omega arith)) ∙ fun-ext (member-of-power j))
+one-member (suc j) l m = rw (sub-one (suc j)) (ap wordMembers (shl-exact 1 j highestHop (omega arith) (omega arith)) ∙ fun-ext (member-of-power j))
 
 -- A WORD IS 0 exactly where it has no member below the bound, and above the bound it has none.
 not-zero : (x : ℕ) → (eqb (x % 2) 1 || not (eqb (x / 2) 0)) ≡ not (eqb x 0)
@@ -118,37 +118,21 @@ some-digit (suc n) x l =
     ap (some-below n) (fun-ext (higher-digit x)) ∙ some-digit n (x / 2) (shr-lt n 1 (rw add-one l)) in
     rw (lowest-digit x, rest) (not-zero x)
 
-some-member : (n x : ℕ) → x < 2 ^ n → some-below (suc n) (members x) ≡ not (eqb x 0)
-unfolding members
+some-member : (n x : ℕ) → x < 2 ^ n → some-below (suc n) (wordMembers x) ≡ not (eqb x 0)
+unfolding wordMembers
 some-member n x l = some-digit n x l
-
-pub members-bounded : (x : ℕ) → x < 2 ^ highestHop → (h : ℕ) → members x h ≡ true → h < hopBound
-unfolding members
-members-bounded x fits zero e = omega arith
-members-bounded x fits (suc k) e =
-    elim (by-test (ltb k highestHop)) [
-      | inl l ↦ omega (arith, ltb-true k highestHop l)
-      | inr l ↦
-          let small : x < 2 ^ k = lt-of-lt-of-le fits (pow-mono (ltb-false k highestHop l)) in
-          never e (ap (λ q. eqb (q % 2) 1) (div-eq-of-lt small))
-    ]
 
 -- TWO SETS ARE APART where their words have no digit in common; their join is the common digits or, where there are none, all of them.
 module _ (a b : ℕ) where
-  pub apart-test : a < 2 ^ highestHop → eqb (bitAnd a b) 0 ≡ not (some-below hopBound (common (members a) (members b)))
+  pub apart-test : a < 2 ^ highestHop → eqb (bitAnd a b) 0 ≡ not (some-below hopBound (common (wordMembers a) (wordMembers b)))
   apart-test fits =
-      let meets : some-below hopBound (common (members a) (members b)) ≡ not (eqb (bitAnd a b) 0) =
+      let meets : some-below hopBound (common (wordMembers a) (wordMembers b)) ≡ not (eqb (bitAnd a b) 0) =
       ap (some-below hopBound) (sym (members-and a b)) ∙ some-member highestHop (bitAnd a b) (omega (arith, and-le-l a b)) in
       sym (ap not meets ∙ Bool·not-not (eqb (bitAnd a b) 0))
 
-  module _ {told : Bool} (test : told ≡ not (some-below hopBound (common (members a) (members b)))) where
-    pub either-is-join : told ≡ true → members (bitOr a b) ≡ join hopBound (members a) (members b)
-    either-is-join e = members-or a b ∙ sym (join-apart hopBound (members a) (members b) (not-true _ (sym test ∙ e)))
+  module _ {told : Bool} (test : told ≡ not (some-below hopBound (common (wordMembers a) (wordMembers b)))) where
+    pub either-is-join : told ≡ true → wordMembers (bitOr a b) ≡ join hopBound (wordMembers a) (wordMembers b)
+    either-is-join e = members-or a b ∙ sym (join-apart hopBound (wordMembers a) (wordMembers b) (not-true _ (sym test ∙ e)))
 
-    pub both-is-join : told ≡ false → members (bitAnd a b) ≡ join hopBound (members a) (members b)
-    both-is-join e = members-and a b ∙ sym (join-meets hopBound (members a) (members b) (not-false _ (sym test ∙ e)))
-
--- THE EMPTY SET has no least member, so that its `least` is the bound.
-pub least-empty : least hopBound (members 0) ≡ hopBound
-unfolding members
-least-empty = refl
+    pub both-is-join : told ≡ false → wordMembers (bitAnd a b) ≡ join hopBound (wordMembers a) (wordMembers b)
+    both-is-join e = members-and a b ∙ sym (join-meets hopBound (wordMembers a) (wordMembers b) (not-false _ (sym test ∙ e)))

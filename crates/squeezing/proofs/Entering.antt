@@ -17,6 +17,7 @@ use Rattle.rules.specs.Numbers.{width, recordBytes, hopBound}
 use Rattle.rules.specs.Records.{announces, print, printTable}
 use Rattle.rules.proofs.Records.{print-length}
 use Rattle.memory.specs.declared.Path.{Path}
+use Rattle.sets.specs.declared.HopSet.{HopSet}
 use Rattle.sets.specs.Sets.{members}
 use Rattle.printing.specs.Printing.{patch, CanPrint}
 use Rattle.printing.proofs.Patch.{patch-length, patch-none, patch-more}
@@ -114,7 +115,7 @@ least-most zero x = omega arith
 least-most (suc N) x =
     elim (by-test (x zero)) [ inl e ↦ rw e (omega arith) | inr e ↦ rw e (omega (arith, least-most N (λ k. x (suc k)))) ]
 
-module _ (k w : ℕ) (path : Path) (x c at : ℕ) (output : List ℕ) (told : Bool) (test : told ≡ members x c) where
+module _ (k w : ℕ) (path : Path) (x : HopSet) (c at : ℕ) (output : List ℕ) (told : Bool) (test : told ≡ members x c) where
   in-set : told ≡ true → (entryOf (members x) c ≡ none) × (hopAfter (members x) c ≡ c)
   unfolding entryOf hopAfter
   in-set e = entry-in hopBound (members x) c (sym test ∙ e)

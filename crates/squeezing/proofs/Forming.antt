@@ -6,8 +6,7 @@ use mathlib.Core.List.{List, [], _∷_, _++_, reverse, reverse-reverse}
 use mathlib.Core.Option.{Option, none, some}
 use Prim.Native.Nat.{ℕ, zero, suc, _+_, _-_, _≤_, _<_}
 use native.Mathlib.Omega.{arith}
-use lib.ListN.{length, getD, set, length-set}
-use lib.Seq.{getD-set-same, getD-set-other}
+use lib.ListN.{length, getD, set}
 use Rattle.theory.specs.Bits.{Bits}
 use Rattle.theory.specs.Hops.{Hops, only, some-below, common, join}
 use Rattle.theory.specs.Ledger.{Ledger, held, isHeld, orElse, longest}
@@ -21,7 +20,8 @@ use Rattle.rules.specs.Numbers.{hopBound, highestHop}
 use Rattle.memory.specs.Layout.{Tree, Memory, slots, Whole, child, find, hopAt}
 use Rattle.memory.proofs.Find.{none-below, one-string, not-none}
 use Rattle.memory.proofs.Ledger.{read-range}
-use Rattle.sets.specs.Sets.{members}
+use Rattle.sets.specs.declared.HopSet.{HopSet}
+use Rattle.sets.specs.Sets.{members, setIn, Keeps}
 use Rattle.squeezing.specs.declared.Formed.{Formed}
 use Rattle.squeezing.specs.Below.{inForce, descend, heldBelow, leavesBelow, setBelow, LiesBelow}
 use Rattle.squeezing.specs.Stored.{Stored, HopInRange, CanForm, Forms}
@@ -35,11 +35,11 @@ module _ (m : Memory) where
   itself w p = record { string = []; short = omega arith; lies = refl }
 
   -- what the scratch holds below a slot stays where the words of the slots below stay
-  pub stored-same : (a b : List ℕ) (w p d : ℕ) → ((k : ℕ) → k < n → LiesBelow (m .tree) w p k → getD b k 0 ≡ getD a k 0)
+  pub stored-same : (a b : List ℕ) (w p d : ℕ) → ((k : ℕ) → k < n → LiesBelow (m .tree) w p k → setIn b k ≡ setIn a k)
       → Stored m a w p d → Stored m b w p d
-  stored-same a b zero p d same x = λ l. ap members (same p l (itself 0 p)) ∙ x l
+  stored-same a b zero p d same x = λ l. same p l (itself 0 p) ∙ x l
   stored-same a b (suc w) p d same x = (
-    (λ l. ap members (same p l (itself (suc w) p)) ∙ x .0 l),
+    (λ l. same p l (itself (suc w) p) ∙ x .0 l),
     stored-same a b w (child (m .tree) false p) (inForce m p d) (λ k l y. same k l (lies-down (m .tree) p false y)) (x .1),
     stored-same a b w (child (m .tree) true p) (inForce m p d) (λ k l y. same k l (lies-down (m .tree) p true y)) (x .2),
   )
@@ -65,25 +65,23 @@ module _ (m : Memory) where
     }
 
   -- A FULL STRING has the set of its one hop
-  pub form-full : (a : List ℕ) (p d : ℕ) (r : Formed) → length a ≡ n → p < n → members (r .set) ≡ only (inForce m p d) → r .splits ≡ 0
-      → Forms m a p 0 d (set a p (r .set)) r
-  form-full a p d r sized l is none-split = record {
+  pub form-full : (a b : List ℕ) (p d : ℕ) (r : Formed) → Keeps a p (r .set) b → members (r .set) ≡ only (inForce m p d) → r .splits ≡ 0
+      → Forms m a p 0 d b r
+  form-full a b p d r keeps is none-split = record {
     set = is;
     splits = none-split;
-    stored = λ h. ap members (getD-set-same a p (r .set) 0 (omega arith)) ∙ is;
-    others = λ k h. getD-set-other a p k (r .set) 0 (λ e. h (subst (LiesBelow (m .tree) 0 p) (sym e) (itself 0 p)));
-    same-length = length-set a p (r .set);
+    stored = λ h. keeps .there ∙ is;
+    others = λ k h. keeps .elsewhere k (λ e. h (subst (LiesBelow (m .tree) 0 p) (sym e) (itself 0 p)));
+    same-length = keeps .same-length;
   }
 
   -- A STRING WITH TWO CHILDREN: first what lies below its 0, then what lies below its 1, then its own set. No slot lies below both
   -- sides, so what is stored stays.
-  module _ (a b c : List ℕ) (p w d : ℕ) (r₀ r₁ r : Formed) (can : CanForm m a p d) (l : p < n)
-      (f₀ : Forms m a (child (m .tree) false p) w (inForce m p d) b r₀) (f₁ : Forms m b (child (m .tree) true p) w (inForce m p d) c r₁) where
+  module _ (a b c after : List ℕ) (p w d : ℕ) (r₀ r₁ r : Formed) (can : CanForm m a p d) (l : p < n)
+      (f₀ : Forms m a (child (m .tree) false p) w (inForce m p d) b r₀) (f₁ : Forms m b (child (m .tree) true p) w (inForce m p d) c r₁)
+      (keeps : Keeps c p (r .set) after) where
     abbrev t : Tree
     t = m .tree
-
-    abbrev after : List ℕ
-    after = set c p (r .set)
 
     own : (s : Bool) (k : ℕ) → LiesBelow t w (child t s p) k → k ≡ p → ⊥
     own s k x e =
@@ -96,9 +94,6 @@ module _ (m : Memory) where
         (subst (λ j. LiesBelow t w (child t false j) k) (sym (can .lies)) x)
         (subst (λ j. LiesBelow t w (child t true j) k) (sym (can .lies)) y)
 
-    elsewhere : (k : ℕ) → (k ≡ p → ⊥) → getD after k 0 ≡ getD c k 0
-    elsewhere k h = getD-set-other c p k (r .set) 0 h
-
     pub form-node : members (r .set) ≡ join hopBound (members (r₀ .set)) (members (r₁ .set))
         → r .splits ≡ splits hopBound (suc w) (leavesBelow (suc w) m p d) → Forms m a p (suc w) d after r
     form-node joined counted =
@@ -107,17 +102,17 @@ module _ (m : Memory) where
           set = is;
           splits = counted;
           stored = (
-            (λ h. ap members (getD-set-same c p (r .set) 0 (omega (arith, can .sized, f₀ .same-length, f₁ .same-length))) ∙ is),
+            (λ h. keeps .there ∙ is),
             stored-same b after w (child t false p) (inForce m p d)
-                (λ k h x. elsewhere k (own false k x) ∙ f₁ .others k (not-both k h x))
+                (λ k h x. keeps .elsewhere k (own false k x) ∙ f₁ .others k (not-both k h x))
                 (f₀ .stored),
-            stored-same c after w (child t true p) (inForce m p d) (λ k h x. elsewhere k (own true k x)) (f₁ .stored),
+            stored-same c after w (child t true p) (inForce m p d) (λ k h x. keeps .elsewhere k (own true k x)) (f₁ .stored),
           );
           others = λ k h.
-              elsewhere k (λ e. h (subst (LiesBelow t (suc w) p) (sym e) (itself (suc w) p)))
+              keeps .elsewhere k (λ e. h (subst (LiesBelow t (suc w) p) (sym e) (itself (suc w) p)))
               ∙ f₁ .others k (λ x. h (lies-down t p true x))
               ∙ f₀ .others k (λ x. h (lies-down t p false x));
-          same-length = length-set c p (r .set) ∙ f₁ .same-length ∙ f₀ .same-length;
+          same-length = keeps .same-length ∙ f₁ .same-length ∙ f₀ .same-length;
         }
 
   -- NO MORE SPLITS THAN SLOTS: no more than routes held below, and each of these has a slot of its own
@@ -166,13 +161,13 @@ forms-at : (m : Memory) (a b : List ℕ) (r : Formed) {p p' w w' d d' : ℕ} →
 forms-at m a b r {p' = p'} {w = w} {w' = w'} {d = d} i j k f =
     subst (λ z. Forms m a p' w' z b r) k (subst (λ z. Forms m a p' z d b r) j (subst (λ z. Forms m a z w d b r) i f))
 
-pub form-full-at : (m : Memory) (a : List ℕ) (p left d e : ℕ) (r : Formed) → length a ≡ slots (m .tree) → p < slots (m .tree) → left ≡ 0
-    → e ≡ inForce m p d → members (r .set) ≡ only e → r .splits ≡ 0 → Forms m a p left d (set a p (r .set)) r
-form-full-at m a p left d e r sized l full here is none-split =
-    forms-at m a (set a p (r .set)) r refl (sym full) refl (form-full m a p d r sized l (is ∙ ap only here) none-split)
+pub form-full-at : (m : Memory) (a b : List ℕ) (p left d e : ℕ) (r : Formed) → Keeps a p (r .set) b → left ≡ 0 → e ≡ inForce m p d
+    → members (r .set) ≡ only e → r .splits ≡ 0 → Forms m a p left d b r
+form-full-at m a b p left d e r keeps full here is none-split =
+    forms-at m a b r refl (sym full) refl (form-full m a b p d r keeps (is ∙ ap only here) none-split)
 
 -- have two sets a hop in common?
-abbrev pub met : ℕ → ℕ → Bool
+abbrev pub met : HopSet → HopSet → Bool
 met a b = some-below hopBound (common (members a) (members b))
 
 pub split-one : (met : Bool) {told : Bool} → told ≡ not met → told ≡ true → _≡_ {A = ℕ} 1 (cond met 0 1)
@@ -213,9 +208,10 @@ module _ (m : Memory) (a b c : List ℕ) (p d e c₀ c₁ x : ℕ) (r₀ r₁ : 
         (subst (λ k. splits hopBound (suc w) (leavesBelow (suc w) m k d) ≤ slots (m .tree)) (can .lies)
         (splits-room m (can .whole) (suc w) (can .string) d (can .hop)))
 
-    step : (r : Formed) → p < slots (m .tree) → members (r .set) ≡ join hopBound (members (r₀ .set)) (members (r₁ .set)) → r .splits ≡ r₀ .splits + r₁ .splits + x
-        → Forms m a p (suc w) d (set c p (r .set)) r
-    step r l joined sum = form-node m a b c p w d r₀ r₁ r can l g₀ g₁ joined (sum ∙ total)
+    step : (r : Formed) (after : List ℕ) → p < slots (m .tree) → Keeps c p (r .set) after
+        → members (r .set) ≡ join hopBound (members (r₀ .set)) (members (r₁ .set)) → r .splits ≡ r₀ .splits + r₁ .splits + x
+        → Forms m a p (suc w) d after r
+    step r after l keeps joined sum = form-node m a b c after p w d r₀ r₁ r can l g₀ g₁ keeps joined (sum ∙ total)
 
   one-less : (left : ℕ) → (left ≡ 0 → ⊥) → suc (left - 1) ≡ left
   one-less left more = omega (arith, not-none left more)
@@ -223,11 +219,12 @@ module _ (m : Memory) (a b c : List ℕ) (p d e c₀ c₁ x : ℕ) (r₀ r₁ : 
   pub form-room : (left : ℕ) → Forms m a c₀ (left - 1) e b r₀ → Forms m b c₁ (left - 1) e c r₁ → r₀ .splits + r₁ .splits + x ≤ slots (m .tree)
   form-room left f₀ f₁ = room (left - 1) f₀ f₁
 
-  pub form-step : (left : ℕ) (r : Formed) → p < slots (m .tree) → (left ≡ 0 → ⊥) → Forms m a c₀ (left - 1) e b r₀ → Forms m b c₁ (left - 1) e c r₁
+  pub form-step : (left : ℕ) (r : Formed) (after : List ℕ) → p < slots (m .tree) → (left ≡ 0 → ⊥) → Forms m a c₀ (left - 1) e b r₀
+      → Forms m b c₁ (left - 1) e c r₁ → Keeps c p (r .set) after
       → members (r .set) ≡ join hopBound (members (r₀ .set)) (members (r₁ .set)) → r .splits ≡ r₀ .splits + r₁ .splits + x
-      → Forms m a p left d (set c p (r .set)) r
-  form-step left r l more f₀ f₁ joined sum =
-      forms-at m a (set c p (r .set)) r refl (one-less left more) refl (step (left - 1) f₀ f₁ r l joined sum)
+      → Forms m a p left d after r
+  form-step left r after l more f₀ f₁ keeps joined sum =
+      forms-at m a after r refl (one-less left more) refl (step (left - 1) f₀ f₁ r after l keeps joined sum)
 
 -- the children's splits alone, before it is known whether their sets are apart
 pub form-sum : (m : Memory) (a b c : List ℕ) (p d e c₀ c₁ : ℕ) (r₀ r₁ : Formed) → CanForm m a p d → e ≡ inForce m p d

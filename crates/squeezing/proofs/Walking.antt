@@ -6,7 +6,6 @@ use mathlib.Core.List.{List, [], _∷_, _++_}
 use mathlib.Core.Logic.{inl, inr}
 use Prim.Native.Nat.{ℕ, zero, suc, _-_, _≤_, _<_}
 use native.Mathlib.Omega.{arith}
-use lib.ListN.{length, getD}
 use Rattle.theory.specs.Bits.{prefixOf}
 use Rattle.theory.specs.Hops.{Hops, Allowed, only}
 use Rattle.theory.specs.Ledger.{Entry}
@@ -20,7 +19,8 @@ use Rattle.memory.specs.declared.Path.{Path}
 use Rattle.memory.specs.Path.{pathBit}
 use Rattle.memory.specs.Layout.{Memory, slots, Whole, child}
 use Rattle.memory.proofs.Find.{below-or, not-none}
-use Rattle.sets.specs.Sets.{members}
+use Rattle.sets.specs.declared.HopSet.{HopSet}
+use Rattle.sets.specs.Sets.{members, setIn}
 use Rattle.printing.specs.Printing.{BitSet, ClearFrom}
 use Rattle.printing.proofs.Paths.{clear-more, clear-front, set-front, set-clear}
 use Rattle.squeezing.specs.declared.Standing.{Standing}
@@ -70,12 +70,12 @@ stored-own : (m : Memory) (a : List ℕ) (w p d : ℕ) → Stored m a w p d → 
 stored-own m a zero p d x = x
 stored-own m a (suc w) p d x = x .0
 
-pub the-set : (m : Memory) (a : List ℕ) (k p w d c at : ℕ) (path : Path) (output : List ℕ) (x : ℕ) → CanWrite m a k p w d c at path output
-    → (p < length a → x ≡ getD a p 0) → (length a ≤ p → members x ≡ only d) → members x ≡ setBelow w m p d
+pub the-set : (m : Memory) (a : List ℕ) (k p w d c at : ℕ) (path : Path) (output : List ℕ) (x : HopSet) → CanWrite m a k p w d c at path output
+    → (p < slots (m .tree) → members x ≡ setIn a p) → (slots (m .tree) ≤ p → members x ≡ only d) → members x ≡ setBelow w m p d
 the-set m a k p w d c at path output x can there beyond =
     elim (below-or p (slots (m .tree))) [
-      | inl l ↦ ap members (there (omega (arith, can .can .sized))) ∙ stored-own m a w p d (can .stored) l
-      | inr l ↦ beyond (omega (arith, can .can .sized)) ∙ sym (set-none m (can .can .whole) w p d l)
+      | inl l ↦ there l ∙ stored-own m a w p d (can .stored) l
+      | inr l ↦ beyond l ∙ sym (set-none m (can .can .whole) w p d l)
     ]
 
 pub one-more : (left : ℕ) → (left ≡ 0 → ⊥) → left ≡ suc (left - 1)
@@ -91,7 +91,7 @@ own-room m k (suc w) p d c at output room =
     (tableBelow w m (child (m .tree) true p) (inForce m p d) (hopAfter (setBelow (suc w) m p d) c))
     at output (subst (λ T. Room k at T output) (table-node m w p d c) room)
 
-module _ (m : Memory) (a : List ℕ) (k p d c at x : ℕ) (path : Path) (output : List ℕ) where
+module _ (m : Memory) (a : List ℕ) (k p d c at : ℕ) (x : HopSet) (path : Path) (output : List ℕ) where
   pub can-enter : (w : ℕ) → CanWrite m a k p w d c at path output → members x ≡ setBelow w m p d → CanEnter k w path x c at output
   can-enter w can is = record {
     path-short = can .path-short;

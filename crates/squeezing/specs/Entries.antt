@@ -13,6 +13,7 @@ use Rattle.rules.specs.Records.{announces, print}
 use Rattle.memory.specs.declared.Path.{Path}
 use Rattle.memory.specs.Path.{pathBit, pathBits}
 use Rattle.memory.specs.Layout.{Memory}
+use Rattle.sets.specs.declared.HopSet.{HopSet}
 use Rattle.sets.specs.Sets.{members}
 use Rattle.printing.specs.Printing.{patch, ClearFrom}
 use Rattle.squeezing.specs.declared.Standing.{Standing}
@@ -53,11 +54,11 @@ abbrev pub stringOf : ℕ → ℕ → Path → Bits
 stringOf k w path = prefixOf (pathBit path) (width k - w)
 
 -- ONE STRING'S ENTRY, or none: its set decides, with the hop in force above
-pub record CanEnter (k w : ℕ) (path : Path) (set c at : ℕ) (output : List ℕ) : Type 0 where
+pub record CanEnter (k w : ℕ) (path : Path) (set : HopSet) (c at : ℕ) (output : List ℕ) : Type 0 where
   pub path-short : IsShort k w path
   pub room : Room k at (here (entryOf (members set) c)) output
 
-pub record Enters (k w : ℕ) (path : Path) (set c at : ℕ) (output output' : List ℕ) (r : Standing) : Type 0 where
+pub record Enters (k w : ℕ) (path : Path) (set : HopSet) (c at : ℕ) (output output' : List ℕ) (r : Standing) : Type 0 where
   pub puts : Puts k (stringOf k w path) (here (entryOf (members set) c)) at output (r .at) output'
   pub hop : r .hop ≡ hopAfter (members set) c
 

@@ -2,24 +2,24 @@
 // bits that are left, so both end; what is no slot is answered at the top, so both sides are called without a test.
 ghost use mathlib.Core.Path.{_≡_};
 ghost use Prim.Native.Nat.{_<_, _≤_};
-ghost use lib.ListN.{length, getD};
 ghost use Rattle.theory.specs.Hops.{only};
 ghost use Rattle.theory.specs.Smallest.{split};
 ghost use Rattle.rules.specs.Numbers.{hopBound, highestHop};
 ghost use Rattle.memory.specs.Layout.{memoryOf};
-ghost use Rattle.sets.specs.Sets.{members};
+ghost use Rattle.sets.specs.Sets.{members, setIn, HasWords};
 ghost use Rattle.squeezing.specs.Stored.{HopInRange, CanForm, Forms};
 ghost use Rattle.squeezing.specs.Entries.{Puts, stringOf, tableBelow, CanEnter, Enters, CanWrite};
 use memory::Path;
+use sets::HopSet;
 
 // The set of a string, and how many strings from it on have children whose sets are apart.
 pub struct Formed {
-    pub set: u64,
+    pub set: HopSet,
     pub splits: usize,
 }
 
 // 1 where two sets have no hop in common, else 0: one entry more is needed below.
-fn split(a: u64, b: u64) -> usize
+fn split(a: HopSet, b: HopSet) -> usize
     ensures { λ r. ⌜ r ≡ split hopBound (members a) (members b) ⌝ }
 {
     if sets::apart(a, b) {
@@ -51,7 +51,7 @@ pub fn form_sets(
     let here = memory::hop_or(hop[slot], above);
     let own = sets::only(here);
     if left == 0 {
-        scratch[slot] = own;
+        sets::keep(scratch, slot, own);
         return Formed {
             set: own,
             splits: 0,
@@ -78,7 +78,7 @@ pub fn form_sets(
         here,
     );
     let set = sets::join(zero.set, one.set);
-    scratch[slot] = set;
+    sets::keep(scratch, slot, set);
     Formed {
         set,
         splits: zero.splits + one.splits + split(zero.set, one.set),
@@ -91,14 +91,14 @@ pub struct Standing {
     pub at: usize,
 }
 
-// The set of a slot's string as it was stored; where there is no slot, one hop goes throughout.
-fn set_of(scratch: &[u64], slot: usize, above: u32) -> u64
-    requires { ⌜ HopInRange above ⌝ }
-    ensures there { λ r. ⌜ (slot < length (now (scratch .entry)) → r ≡ getD (now (scratch .entry)) slot 0) ⌝ }
-    ensures beyond { λ r. ⌜ (length (now (scratch .entry)) ≤ slot → members r ≡ only above) ⌝ }
+// The set of a slot's string as it was kept; where there is no slot, of `slots`, one hop goes throughout.
+fn set_of(scratch: &[u64], slot: usize, slots: usize, above: u32) -> HopSet
+    requires { ⌜ HopInRange above × (slot < slots → HasWords (now scratch) slot) ⌝ }
+    ensures there { λ r. ⌜ (slot < slots → members r ≡ setIn (now (scratch .entry)) slot) ⌝ }
+    ensures beyond { λ r. ⌜ (slots ≤ slot → members r ≡ only above) ⌝ }
 {
-    if slot < scratch.len() {
-        return scratch[slot];
+    if slot < slots {
+        return sets::kept(scratch, slot);
     }
     sets::only(above)
 }
@@ -110,7 +110,7 @@ fn enter(
     bytes: usize,
     path: Path,
     left: usize,
-    set: u64,
+    set: HopSet,
     chosen: u32,
 ) -> Standing
     requires { ⌜ CanEnter bytes left path set chosen at (now output) × (chosen ≤ highestHop) ⌝ }
@@ -153,7 +153,7 @@ pub fn write_entries(
         bytes,
         path,
         left,
-        set_of(scratch, slot, above),
+        set_of(scratch, slot, up.len(), above),
         chosen,
     );
     if slot >= up.len() {

@@ -8,7 +8,7 @@ use Prim.Native.Nat.{ℕ, _*_}
 use lib.Dec.{eqb, ltb}
 use lib.ListN.{length, drop}
 use Rattle.theory.specs.Ledger.{Entry}
-use Rattle.rules.specs.Numbers.{ipv4, width, recordBytes, badSlices, noLedger, shortOutput}
+use Rattle.rules.specs.Numbers.{ipv4, width, recordBytes, scratchWords, badSlices, noLedger, shortOutput}
 use Rattle.rules.specs.Records.{_refusedBy_, firstFault, printTable}
 use Rattle.rules.specs.Writing.{Written, writes, refuses, written}
 use Rattle.memory.specs.Layout.{Memory, slots, ledgerOf, holdsLedger, zeros}
@@ -47,11 +47,11 @@ abbrev pub writtenInto : Written → List ℕ → List ℕ → Outcome
 writtenInto (writes T) scratch output = intoOutput T scratch output
 writtenInto (refuses x) scratch output = unchanged x scratch output
 
--- THE WHOLE CALL'S RULES: 1 asks for one word of scratch a slot, too
+-- THE WHOLE CALL'S RULES: 1 asks for scratch of its length, too
 unfoldable pub writeFault : Memory → List ℕ → Option ℕ
 writeFault m scratch =
     firstFault
-    ((badLent m || not (eqb (length scratch) (slots (m .tree)))) refusedBy badSlices
+    ((badLent m || not (eqb (length scratch) (scratchWords (slots (m .tree))))) refusedBy badSlices
     ∷ not (holdsLedger (m .tree)) refusedBy noLedger
     ∷ [])
 

@@ -1,11 +1,11 @@
 -- A word is 0 exactly where it has no member.
 use native.Mathlib.Omega.{arith}
-use Rattle.sets.proofs.Words.{apart-test}
+use Rattle.sets.proofs.Members.{apart-is}
 use Rattle.sets.proofs.apart.Statement.{statement}
 use Rattle.sets.proofs.apart.Tie as tie
 
 returns : tie.Need-returns
-returns c = apart-test _ _ (omega arith)
+returns c = apart-is _ _ (omega arith)
 
 pub apart-spec : {M : Type 1} → statement M
 apart-spec = tie.close (tie.spec returns)

@@ -1,11 +1,11 @@
 -- The digit that the shift brings down is the hop's.
+use Rattle.sets.proofs.Members.{has-digit, has-none}
 use borrow.Author.Needs.{needs}
-use Rattle.sets.proofs.Words.{member-digit, no-member}
 use Rattle.sets.proofs.has.Statement.{statement}
 use Rattle.sets.proofs.has.Tie as tie
 
 returns : tie.Need-returns
-returns c = no-member _ _ (c .if1 .taken)
+returns c = has-none _ _ (c .if1 .taken)
 
 cast-result : tie.Need-cast-result
 cast-result c = search needs
@@ -14,7 +14,7 @@ shr-result : tie.Need-shr-result
 shr-result c = search needs
 
 returns-2 : tie.Need-returns-2
-returns-2 c = member-digit _ _ (c .if1 .left)
+returns-2 c = has-digit _ _ (c .before .if1 .left)
 
 pub has-spec : {M : Type 1} → statement M
 has-spec = tie.close (tie.spec returns cast-result shr-result returns-2)

@@ -5,7 +5,7 @@ use native.Mathlib.Omega.{arith}
 use Rattle.theory.specs.Hops.{least}
 use Rattle.rules.specs.Numbers.{hopBound}
 use Rattle.sets.specs.Sets.{members}
-use Rattle.sets.proofs.Words.{no-member}
+use Rattle.sets.proofs.Members.{has-none}
 use Rattle.sets.proofs.Looking.{look-on, met, all-looked}
 use Rattle.sets.proofs.least.Statement.{statement}
 use Rattle.sets.proofs.least.Tie as tie
@@ -17,7 +17,7 @@ abbrev μ-loop : tie.MeasureT-loop
 μ-loop set hop₀ hop = hopBound - hop
 
 loop-holds : tie.Need-loop-holds Inv-loop μ-loop
-loop-holds c = (omega arith, look-on hopBound (members _) 0 (omega arith) (omega arith) (sym (no-member _ 0 (omega arith))))
+loop-holds c = (omega arith, look-on hopBound (members _) 0 (omega arith) (omega arith) (sym (has-none _ 0 (omega arith))))
 
 has-requires : tie.Need-has-requires Inv-loop μ-loop
 has-requires c κs = c .loop-test .taken

@@ -14,6 +14,7 @@ use Rattle.squeezing.proofs.+form_sets.Lts-form_sets as form-sets-lts
 use Rattle.memory.proofs.child_of.Reads as child-of-reads
 use Rattle.memory.proofs.hop_or.Reads as hop-or-reads
 use Rattle.sets.proofs.join.Reads as join-reads
+use Rattle.sets.proofs.keep.Reads as keep-reads
 use Rattle.sets.proofs.only.Reads as only-reads
 use Rattle.squeezing.proofs.split.Reads as split-reads
 use Rattle.squeezing.proofs.+form_sets.{statement}
@@ -30,7 +31,7 @@ form-sets-below t =
     and 5 form-sets-kinds.ps (falls 5 form-sets-kinds.ps _<_ μ-form-sets t) form-sets.Pre
 
 abbrev said : ℕ → form-sets-lts.Claims
-said t = (only-reads.Asked, only-reads.Learnt, hop-or-reads.Asked, hop-or-reads.Learnt, child-of-reads.Asked, child-of-reads.Learnt, form-sets-below t, form-sets.Post, join-reads.Asked, join-reads.Learnt, split-reads.Asked, split-reads.Learnt)
+said t = (only-reads.Asked, only-reads.Learnt, hop-or-reads.Asked, hop-or-reads.Learnt, keep-reads.Asked, keep-reads.Learnt, child-of-reads.Asked, child-of-reads.Learnt, form-sets-below t, form-sets.Post, join-reads.Asked, join-reads.Learnt, split-reads.Asked, split-reads.Learnt)
 
 form-sets-only-requires : (t : ℕ) → form-sets-lts.Need-only-requires (said t) (form-sets-at t) form-sets.Post
 form-sets-only-requires t c κs =
@@ -61,28 +62,19 @@ form-sets-only-requires-2 t c κs =
     let entry = c .before .before .before .before .before .before .before .before in
     in-range _ (entry .pre .1) (c .hop-or .ensures)
 
-form-sets-mul-scratch : (t : ℕ) → form-sets-lts.Need-mul-scratch (said t) (form-sets-at t) form-sets.Post
-form-sets-mul-scratch t c =
-    let at-if1 = c .before .before .before .before in
-    let entry = at-if1 .before .before .before .before .before .before in
-    record { fits = omega (arith, at-if1 .if1 .left, entry .pre .1 .whole .shaped .few) }
-
-form-sets-slice-write-scratch : (t : ℕ) → form-sets-lts.Need-slice-write-scratch (said t) (form-sets-at t) form-sets.Post
-form-sets-slice-write-scratch t c =
-    let at-if1 = c .before .before .before .before in
+form-sets-keep-requires : (t : ℕ) → form-sets-lts.Need-keep-requires (said t) (form-sets-at t) form-sets.Post
+form-sets-keep-requires t c κs =
+    let at-if1 = c .before .before .before .before .before in
     let entry = at-if1 .before .before .before .before .before .before in
     omega (arith, at-if1 .if1 .left, entry .pre .1 .sized)
 
-form-sets-same-length : (t : ℕ) → form-sets-lts.Need-same-length (said t) (form-sets-at t) form-sets.Post
-form-sets-same-length t c =
-    search needs
-
 form-sets-returns-2 : (t : ℕ) → form-sets-lts.Need-returns-2 (said t) (form-sets-at t) form-sets.Post
 form-sets-returns-2 t c =
-    let at-hop-or = c .before .before in
-    let at-if1 = at-hop-or .before .before in
-    let entry = at-if1 .before .before .before .before .before .before in
-    form-full-at _ _ _ _ _ _ _ (entry .pre .1 .sized) (at-if1 .if1 .left) (c .if2 .taken) (at-hop-or .hop-or .ensures) (c .before .only2 .ensures) refl
+    let at-keep = c .before .before in
+    let at-if2 = at-keep .before .before in
+    let at-only2 = at-if2 .before in
+    let at-hop-or = at-only2 .before in
+    form-full-at _ _ _ _ _ _ _ _ (at-keep .keep .ensures) (at-if2 .if2 .taken) (at-hop-or .hop-or .ensures) (at-only2 .only2 .ensures) refl
 
 form-sets-child-of-requires : (t : ℕ) → form-sets-lts.Need-child-of-requires (said t) (form-sets-at t) form-sets.Post
 form-sets-child-of-requires t c κs =
@@ -125,23 +117,17 @@ form-sets-join-requires : (t : ℕ) → form-sets-lts.Need-join-requires (said t
 form-sets-join-requires t c κs =
     search needs
 
-form-sets-mul-scratch-2 : (t : ℕ) → form-sets-lts.Need-mul-scratch-2 (said t) (form-sets-at t) form-sets.Post
-form-sets-mul-scratch-2 t c =
-    let at-if1 = c .before .before .before .before .before .before .before .before .before .before .before .before .before .before .before in
-    let entry = at-if1 .before .before .before .before .before .before in
-    record { fits = omega (arith, at-if1 .if1 .left, entry .pre .1 .whole .shaped .few) }
-
-form-sets-slice-write-scratch-2 : (t : ℕ) → form-sets-lts.Need-slice-write-scratch-2 (said t) (form-sets-at t) form-sets.Post
-form-sets-slice-write-scratch-2 t c =
-    let at-form-sets2 = c .before .before .before in
+form-sets-keep-requires-2 : (t : ℕ) → form-sets-lts.Need-keep-requires-2 (said t) (form-sets-at t) form-sets.Post
+form-sets-keep-requires-2 t c κs =
+    let at-form-sets2 = c .before .before .before .before in
     let at-form-sets = at-form-sets2 .before .before .before .before .before in
     let at-if1 = at-form-sets .before .before .before .before .before .before .before in
     let entry = at-if1 .before .before .before .before .before .before in
     omega (arith, at-if1 .if1 .left, entry .pre .1 .sized, at-form-sets .form-sets .ensures .same-length, at-form-sets2 .form-sets2 .ensures .same-length)
 
-form-sets-add-t23 : (t : ℕ) → form-sets-lts.Need-add-t23 (said t) (form-sets-at t) form-sets.Post
-form-sets-add-t23 t c =
-    let at-form-sets2 = c .before .before .before .before .before in
+form-sets-add-t14 : (t : ℕ) → form-sets-lts.Need-add-t14 (said t) (form-sets-at t) form-sets.Post
+form-sets-add-t14 t c =
+    let at-form-sets2 = c .before .before .before .before .before .before .before .before .before in
     let at-child-of2 = at-form-sets2 .before in
     let at-form-sets = at-child-of2 .before .before .before .before in
     let at-child-of = at-form-sets .before in
@@ -153,9 +139,9 @@ form-sets-split-requires : (t : ℕ) → form-sets-lts.Need-split-requires (said
 form-sets-split-requires t c κs =
     search needs
 
-form-sets-add-t27 : (t : ℕ) → form-sets-lts.Need-add-t27 (said t) (form-sets-at t) form-sets.Post
-form-sets-add-t27 t c =
-    let at-form-sets2 = c .before .before .before .before .before .before in
+form-sets-add-t30 : (t : ℕ) → form-sets-lts.Need-add-t30 (said t) (form-sets-at t) form-sets.Post
+form-sets-add-t30 t c =
+    let at-form-sets2 = c .before .before .before .before .before .before .before .before .before .before in
     let at-child-of2 = at-form-sets2 .before in
     let at-form-sets = at-child-of2 .before .before .before .before in
     let at-child-of = at-form-sets .before in
@@ -165,7 +151,8 @@ form-sets-add-t27 t c =
 
 form-sets-returns-3 : (t : ℕ) → form-sets-lts.Need-returns-3 (said t) (form-sets-at t) form-sets.Post
 form-sets-returns-3 t c =
-    let at-join = c .before .before .before in
+    let at-keep2 = c .before .before .before .before .before in
+    let at-join = at-keep2 .before .before in
     let at-form-sets2 = at-join .before .before .before in
     let at-child-of2 = at-form-sets2 .before in
     let at-form-sets = at-child-of2 .before .before .before .before in
@@ -174,7 +161,11 @@ form-sets-returns-3 t c =
     let at-hop-or = at-if2 .before .before in
     let at-if1 = at-hop-or .before .before in
     let entry = at-if1 .before .before .before .before .before .before in
-    form-step _ _ _ _ _ _ _ _ _ _ _ _ (entry .pre .1) (at-hop-or .hop-or .ensures) (at-child-of .child-of .ensures) (at-child-of2 .child-of2 .ensures) (c .split .ensures) _ _ (at-if1 .if1 .left) (at-if2 .if2 .left) (at-form-sets .form-sets .ensures) (at-form-sets2 .form-sets2 .ensures) (at-join .join .ensures) refl
+    form-step _ _ _ _ _ _ _ _ _ _ _ _ (entry .pre .1) (at-hop-or .hop-or .ensures) (at-child-of .child-of .ensures) (at-child-of2 .child-of2 .ensures) (c .split .ensures) _ _ _ (at-if1 .if1 .left) (at-if2 .if2 .left) (at-form-sets .form-sets .ensures) (at-form-sets2 .form-sets2 .ensures) (at-keep2 .keep2 .ensures) (at-join .join .ensures) refl
+
+form-sets-same-length : (t : ℕ) → form-sets-lts.Need-same-length (said t) (form-sets-at t) form-sets.Post
+form-sets-same-length t c =
+    form-sets-returns-2 t c .same-length
 
 form-sets-same-length-2 : (t : ℕ) → form-sets-lts.Need-same-length-2 (said t) (form-sets-at t) form-sets.Post
 form-sets-same-length-2 t c =
@@ -190,8 +181,7 @@ pub +form-sets-spec : {M : Type 1} → statement M
     (form-sets-shared-slice-read-hop-or t)
     (form-sets-hop-or-requires t)
     (form-sets-only-requires-2 t)
-    (form-sets-mul-scratch t)
-    (form-sets-slice-write-scratch t)
+    (form-sets-keep-requires t)
     (form-sets-same-length t)
     (form-sets-returns-2 t)
     (form-sets-child-of-requires t)
@@ -201,10 +191,9 @@ pub +form-sets-spec : {M : Type 1} → statement M
     (form-sets-sub-form-sets-2 t)
     (form-sets-form-sets-requires-2 t)
     (form-sets-join-requires t)
-    (form-sets-mul-scratch-2 t)
-    (form-sets-slice-write-scratch-2 t)
-    (form-sets-add-t23 t)
+    (form-sets-keep-requires-2 t)
+    (form-sets-add-t14 t)
     (form-sets-split-requires t)
-    (form-sets-add-t27 t)
+    (form-sets-add-t30 t)
     (form-sets-same-length-2 t)
     (form-sets-returns-3 t)

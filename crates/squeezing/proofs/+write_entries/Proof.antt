@@ -35,17 +35,13 @@ said t = (set-of-reads.Asked, set-of-reads.Learnt, enter-reads.Asked, enter-read
 write-entries-set-of-requires : (t : ℕ) → write-entries-lts.Need-set-of-requires (said t) (write-entries-at t) write-entries.Post
 write-entries-set-of-requires t c κs =
     let entry = c .before .before .before .before .before .before .before in
-    entry .pre .1 .can .hop
+    (entry .pre .1 .can .hop, λ l. omega (arith, l, entry .pre .1 .can .sized))
 
 write-entries-enter-requires : (t : ℕ) → write-entries-lts.Need-enter-requires (said t) (write-entries-at t) write-entries.Post
 write-entries-enter-requires t c κs =
     let entry = c .before .before .before .before .before .before .before .before in
     let set = the-set _ _ _ _ _ _ _ _ _ _ _ (entry .pre .1) (c .set-of .ensures .0) (c .set-of .ensures .1) in
     (can-enter _ _ _ _ _ _ _ _ _ _ _ (entry .pre .1) set, entry .pre .1 .chosen)
-
-write-entries-same-length : (t : ℕ) → write-entries-lts.Need-same-length (said t) (write-entries-at t) write-entries.Post
-write-entries-same-length t c =
-    search needs
 
 write-entries-returns : (t : ℕ) → write-entries-lts.Need-returns (said t) (write-entries-at t) write-entries.Post
 write-entries-returns t c =
@@ -54,10 +50,6 @@ write-entries-returns t c =
     let entry = at-set-of .before .before .before .before .before .before .before .before in
     let set = the-set _ _ _ _ _ _ _ _ _ _ _ (entry .pre .1) (at-set-of .set-of .ensures .0) (at-set-of .set-of .ensures .1) in
     puts-none _ _ _ _ _ _ _ _ _ _ _ _ _ (entry .pre .1) (c .if1 .taken) set (at-enter .enter .ensures)
-
-write-entries-same-length-2 : (t : ℕ) → write-entries-lts.Need-same-length-2 (said t) (write-entries-at t) write-entries.Post
-write-entries-same-length-2 t c =
-    search needs
 
 write-entries-returns-2 : (t : ℕ) → write-entries-lts.Need-returns-2 (said t) (write-entries-at t) write-entries.Post
 write-entries-returns-2 t c =
@@ -157,6 +149,16 @@ write-entries-returns-3 t c =
     let entry = at-set-of .before .before .before .before .before .before .before .before in
     let set = the-set _ _ _ _ _ _ _ _ _ _ _ (entry .pre .1) (at-set-of .set-of .ensures .0) (at-set-of .set-of .ensures .1) in
     puts-node _ _ _ _ _ _ _ _ _ _ _ _ _ _ (one-more _ (at-if2 .if2 .left)) (entry .pre .1) set (at-enter .enter .ensures) _ _ _ (at-hop-or .hop-or .ensures) (at-child-of .child-of .ensures) (at-child-of2 .child-of2 .ensures) _ _ (at-write-entries .write-entries .ensures) _ (at-set-bit .set-bit .ensures) _ _ (at-write-entries2 .write-entries2 .ensures)
+
+write-entries-same-length : (t : ℕ) → write-entries-lts.Need-same-length (said t) (write-entries-at t) write-entries.Post
+write-entries-same-length t c =
+    let entry = c .before .before .before .before .before .before .before .before .before .before .before .before in
+    puts-length _ (write-entries-returns t c) (entry .pre .1 .room)
+
+write-entries-same-length-2 : (t : ℕ) → write-entries-lts.Need-same-length-2 (said t) (write-entries-at t) write-entries.Post
+write-entries-same-length-2 t c =
+    let entry = c .before .before .before .before .before .before .before .before .before .before .before .before .before in
+    puts-length _ (write-entries-returns-2 t c) (entry .pre .1 .room)
 
 write-entries-same-length-3 : (t : ℕ) → write-entries-lts.Need-same-length-3 (said t) (write-entries-at t) write-entries.Post
 write-entries-same-length-3 t c =
