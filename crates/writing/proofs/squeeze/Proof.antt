@@ -29,6 +29,15 @@ returns c =
     let entry = at-form-sets .before .before .before .before .before .before .before .before in
     refuse-short _ _ _ (entry .pre) _ _ _ (at-form-sets .form-sets .ensures) _ _ _ _ (at-clear .clear .ensures) (at-if1 .if1 .taken) refl refl refl
 
+returns-2 : tie.Need-returns-2
+returns-2 c =
+    let at-clear2 = c .before .before in
+    let at-write-entries = at-clear2 .before .before .before .before in
+    let at-if1 = at-write-entries .before .before .before in
+    let at-form-sets = at-if1 .before .before .before .before in
+    let entry = at-form-sets .before .before .before .before .before .before .before .before in
+    wrote _ _ _ (entry .pre) _ _ _ (at-form-sets .form-sets .ensures) _ _ _ (at-if1 .if1 .left) _ _ _ (at-write-entries .write-entries .ensures) _ (at-clear2 .clear2 .ensures) refl refl refl refl
+
 write-entries-requires : tie.Need-write-entries-requires
 write-entries-requires c κs =
     let at-if1 = c .before .before in
@@ -38,15 +47,6 @@ write-entries-requires c κs =
 
 clear-requires-2 : tie.Need-clear-requires-2
 clear-requires-2 c κs = search needs
-
-returns-2 : tie.Need-returns-2
-returns-2 c =
-    let at-clear2 = c .before .before in
-    let at-write-entries = at-clear2 .before .before .before .before in
-    let at-if1 = at-write-entries .before .before .before in
-    let at-form-sets = at-if1 .before .before .before .before in
-    let entry = at-form-sets .before .before .before .before .before .before .before .before in
-    wrote _ _ _ (entry .pre) _ _ _ (at-form-sets .form-sets .ensures) _ _ _ (at-if1 .if1 .left) _ _ _ (at-write-entries .write-entries .ensures) _ (at-clear2 .clear2 .ensures) refl refl refl refl
 
 same-length : tie.Need-same-length
 same-length c =
