@@ -88,7 +88,7 @@ module _ (w : ℕ) (a m : Memory) (f : ℕ → Bool) (size h : ℕ) (can : CanAn
     stored : readHop (h + 1) ≡ some h
     stored =
         let plain : h + 1 - 1 ≡ h = omega arith in
-        hop-stored (h + 1) (omega (arith, can .low)) (omega (arith, can .high)) ∙ ap some plain
+        hop-stored (h + 1) (omega (arith, can .may .0)) (omega (arith, can .may .1)) ∙ ap some plain
 
     pub announce-taken : d ≡ size → Announced w a (rehop m slot (h + 1)) (prefixOf f size) h true
     announce-taken e =

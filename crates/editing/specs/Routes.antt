@@ -6,7 +6,7 @@ use Prim.Native.Nat.{ℕ, _+_, _≤_, _<_}
 use Rattle.theory.specs.Bits.{Bits, front}
 use Rattle.theory.specs.Ledger.{isHeld, announce, withdraw}
 use Rattle.rules.specs.Plain.{needs}
-use Rattle.rules.specs.Numbers.{lowestHop, highestHop}
+use Rattle.rules.specs.Numbers.{MayAnnounce}
 use Rattle.memory.specs.Path.{pathBits}
 use Rattle.memory.specs.Layout.{Memory, slots, Whole, child, find, ledgerOf}
 use Rattle.memory.specs.Tidy.{TidyBut, Tidy}
@@ -21,8 +21,7 @@ pub record CanWithdraw (w : ℕ) (m : Memory) (size : ℕ) : Type 0 where
 
 pub record CanAnnounce (w : ℕ) (m : Memory) (size h : ℕ) : Type 0 where
   pub route : CanWithdraw w m size
-  pub low : lowestHop ≤ h
-  pub high : h ≤ highestHop
+  pub may : MayAnnounce h
 
 -- .. and, on the way, the slot of a path's first bits
 pub record OnPath (w : ℕ) (m : Memory) (f : ℕ → Bool) (size slot : ℕ) : Type 0 where

@@ -14,7 +14,7 @@ use Rattle.theory.proofs.Hops.{by-test}
 use Rattle.rules.specs.Numbers.{ipv4, width, recordBytes, mostSlots, scratchWords}
 use Rattle.rules.specs.Plain.{updated}
 use Rattle.rules.specs.Lookup.{hopOf}
-use Rattle.rules.specs.Writing.{smallestTable}
+use Rattle.rules.specs.Writing.{smallestTable, ForwardAlike}
 use Rattle.memory.specs.Layout.{Memory, slots, ledgerOf}
 use Rattle.memory.proofs.Zeros.{zeroed-ledger, zeroed-slots}
 use Rattle.lent.specs.Lent.{lentFault}
@@ -121,7 +121,7 @@ history-writes n some-slot few asks m replies run default scratch output scratch
 -- two histories whose ledgers forward alike: both write the same count and the same bytes
 pub histories-same-bytes : (n : ℕ) → 0 < n → n ≤ mostSlots → (asks : List Ask) (m : Memory) (replies : List Reply) → Run n asks m replies
     → (n₂ : ℕ) → 0 < n₂ → n₂ ≤ mostSlots → (asks₂ : List Ask) (m₂ : Memory) (replies₂ : List Reply) → Run n₂ asks₂ m₂ replies₂
-    → ((x : ℕ) → x < 4294967296 → hopOf ipv4 (plainLedger n nothing asks) x ≡ hopOf ipv4 (plainLedger n₂ nothing asks₂) x)
+    → ForwardAlike ipv4 (plainLedger n nothing asks) (plainLedger n₂ nothing asks₂)
     → (scratch output scratch' output' : List ℕ) (r : Wrote) (c : ℕ) → Writes m scratch output scratch' output' r → r ≡ Table c
     → (scratch₂ output₂ scratch₂' output₂' : List ℕ) (r₂ : Wrote) (c₂ : ℕ) → Writes m₂ scratch₂ output₂ scratch₂' output₂' r₂ → r₂ ≡ Table c₂
     → (c ≡ c₂) × (take (c * recordBytes ipv4) output' ≡ take (c * recordBytes ipv4) output₂')

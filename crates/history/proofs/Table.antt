@@ -13,8 +13,7 @@ use Rattle.theory.proofs.Hops.{never}
 use Rattle.rules.specs.Numbers.{ipv4, width, recordBytes, mostSlots}
 use Rattle.rules.specs.Records.{printTable}
 use Rattle.rules.specs.Plain.{needs, WithinRules}
-use Rattle.rules.specs.Lookup.{hopOf}
-use Rattle.rules.specs.Writing.{smallestTable, SmallestFor}
+use Rattle.rules.specs.Writing.{smallestTable, ForwardAlike, SmallestFor}
 use Rattle.rules.proofs.Records.{table-length}
 use Rattle.rules.proofs.Slots.{needs-mono, needs-nothing}
 use Rattle.rules.proofs.Smallest.{smallest-for, forward-alike}
@@ -122,7 +121,7 @@ table-in-front m scratch output scratch' output' r c meets is =
       ap₂ (λ k o. take (k * recordBytes ipv4) o) count (now .2) ∙ take-at (printTable ipv4 T) (drop (bytesFor T) output) (bytesFor T) (table-length ipv4 T),
     )
 
-pub same-bytes : (m m₂ : Memory) → ((x : ℕ) → x < 4294967296 → hopOf ipv4 (ledgerOf (width ipv4) m) x ≡ hopOf ipv4 (ledgerOf (width ipv4) m₂) x)
+pub same-bytes : (m m₂ : Memory) → ForwardAlike ipv4 (ledgerOf (width ipv4) m) (ledgerOf (width ipv4) m₂)
     → (scratch output scratch' output' : List ℕ) (r : Wrote) (c : ℕ) → Writes m scratch output scratch' output' r → r ≡ Table c
     → (scratch₂ output₂ scratch₂' output₂' : List ℕ) (r₂ : Wrote) (c₂ : ℕ) → Writes m₂ scratch₂ output₂ scratch₂' output₂' r₂ → r₂ ≡ Table c₂
     → (c ≡ c₂) × (take (c * recordBytes ipv4) output' ≡ take (c * recordBytes ipv4) output₂')

@@ -7,7 +7,7 @@ use Prim.Native.Nat.{ℕ, _*_, _≤_, _<_}
 use lib.ListN.{length, drop}
 use Rattle.theory.specs.Bits.{Each}
 use Rattle.theory.specs.Ledger.{Ledger, Entry, nothing, held, load}
-use Rattle.rules.specs.Numbers.{ipv4, width, recordBytes, mostSlots, scratchWords, noLedger}
+use Rattle.rules.specs.Numbers.{ipv4, width, addresses, recordBytes, mostSlots, scratchWords, noLedger}
 use Rattle.rules.specs.Lookup.{hopOf, scanned, AnswersAs}
 use Rattle.rules.specs.Plain.{needs}
 use Rattle.rules.specs.Writing.{smallestTable, ForwardsAs}
@@ -41,7 +41,7 @@ pub record HoldsOfRun (n : ℕ) (asks : List Ask) (m : Memory) (replies : List R
 pub record IsSmallest (L : Ledger ℕ) (count : ℕ) (bytes : List ℕ) : Type 0 where
   pub sized : length bytes ≡ count * recordBytes ipv4
   -- it agrees with the ledger on all 4,294,967,296 addresses, as our list lookup finds them in these bytes
-  pub agrees : (x : ℕ) → x < 4294967296 → (f : Found) → LooksUpList bytes x f
+  pub agrees : (x : ℕ) → x < addresses ipv4 → (f : Found) → LooksUpList bytes x f
       → answerOf f ≡ record { refusal = none; hop = hopOf ipv4 L x; place = 0 }
   -- no record list that agrees has fewer records, nor any list of entries with any prefixes and any hops
   pub fewest-records : (list : List ℕ) → AnswersAs ipv4 L list → length bytes ≤ length list

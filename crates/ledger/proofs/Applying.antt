@@ -58,8 +58,7 @@ module _ (list : List ℕ) (at : ℕ) (m : Memory) (whole : Whole m) where
       unfolding InBounds
       can-announce = record {
         route = record { whole = whole; short = r .bounds .prefix .within; fits = omega arith };
-        low = r .bounds .low;
-        high = r .bounds .high;
+        may = r .bounds .may;
       }
 
       announced : (m' : Memory) (b : Bool) → Announced w m m' (prefixOf (pathBit path) size) h b

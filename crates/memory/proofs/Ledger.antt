@@ -16,7 +16,7 @@ use Rattle.theory.specs.Ledger.{isHeld, orElse, longest}
 use Rattle.theory.proofs.Hops.{by-test, never}
 use Rattle.theory.proofs.Longest.{none-some}
 use Rattle.theory.proofs.Walk.{best, prefix-length, longest-walk}
-use Rattle.rules.specs.Numbers.{lowestHop, highestHop}
+use Rattle.rules.specs.Numbers.{lowestHop, highestHop, MayAnnounce}
 use Rattle.rules.specs.Plain.{WithinRules}
 use Rattle.memory.specs.Layout.{Memory, slots, Whole, find, readHop, hopAt, ledgerOf}
 use Rattle.memory.proofs.Find.{same-or, below-or, none-deeper, find-le}
@@ -52,7 +52,7 @@ stored-range v h =
 pub held-stored : (v : ℕ) → isHeld (readHop v) ≡ true → (0 < v) × (readHop v ≡ some (v - 1))
 held-stored v h = let range = stored-range v h in (omega arith, hop-stored v (range .0) (range .1))
 
-pub read-range : (v h : ℕ) → readHop v ≡ some h → (lowestHop ≤ h) × (h ≤ highestHop)
+pub read-range : (v h : ℕ) → readHop v ≡ some h → MayAnnounce h
 read-range v h e =
     let range = stored-range v (ap isHeld e) in
     let stored = hop-stored v (range .0) (range .1) in
@@ -75,7 +75,7 @@ module _ (w : ℕ) (m : Memory) where
         | inl long ↦ none-some e (ledger-long s long)
         | inr short ↦
             let range = read-range (getD (m .hop) (find (m .tree) (reverse s)) 0) h (sym (ledger-at s short) ∙ e) in
-            (short, range .0, range .1)
+            (short, range)
       ]
 
   pub ledger-front : (f : ℕ → Bool) (d : ℕ) → d ≤ w → ledgerOf w m (prefixOf f d) ≡ hopAt m (find (m .tree) (front f d))

@@ -9,14 +9,16 @@ pub const WIDTH: usize = 8 * ADDRESS;
 // The lengths that a prefix may have: 0 to 32.
 pub const LENGTHS: usize = WIDTH + 1;
 
-// A record has this many bytes, and its fields stand at these places.
-pub const RECORD: usize = 8;
+// A record is the address and so many bytes behind it: length, action and two bytes of hop, at these places.
+pub const FIELDS: usize = 4;
 
-pub const SIZE_AT: usize = 4;
+pub const RECORD: usize = ADDRESS + FIELDS;
 
-pub const ACTION_AT: usize = 5;
+pub const SIZE_AT: usize = ADDRESS;
 
-pub const HOP_AT: usize = 6;
+pub const ACTION_AT: usize = ADDRESS + 1;
+
+pub const HOP_AT: usize = ADDRESS + 2;
 
 // The actions.
 pub const ANNOUNCE: u8 = 1;

@@ -147,7 +147,7 @@ module _ {l : List ℕ} {at : ℕ} {withdrawals : Bool} {address hop : ℕ} (fet
         → ReadsRecord l at withdrawals (Announces address (getD l (at + 4) 0) hop)
     unfolding readingOf InBounds
     answers-announces a low high =
-        answers (Announces address (getD l (at + 4) 0) hop) (announced k a low high) (record { prefix = clean-prefix fetched k; low = low; high = high })
+        answers (Announces address (getD l (at + 4) 0) hop) (announced k a low high) (record { prefix = clean-prefix fetched k; may = (low, high) })
 
     pub answers-withdraws : (getD l (at + 5) 0 ≡ announceAction → ⊥) → takesWithdrawals (useOf withdrawals) ≡ true → getD l (at + 5) 0 ≡ withdrawAction → hop ≡ 0
         → ReadsRecord l at withdrawals (Withdraws address (getD l (at + 4) 0))

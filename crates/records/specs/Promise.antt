@@ -2,10 +2,10 @@
 use mathlib.Core.Path.{_≡_}
 use mathlib.Core.Bool.{Bool, true, false}
 use mathlib.Core.List.{List}
-use Prim.Native.Nat.{ℕ, _+_, _^_, _≤_, _<_}
+use Prim.Native.Nat.{ℕ, _+_, _≤_, _<_}
 use lib.ListN.{length, take, drop}
 use Rattle.theory.specs.Bits.{bitsOf}
-use Rattle.rules.specs.Numbers.{ipv4, width, recordBytes, lowestHop, highestHop, badPrefixLength, badHop}
+use Rattle.rules.specs.Numbers.{ipv4, width, recordBytes, badPrefixLength, badHop, MayAnnounce, addresses}
 use Rattle.rules.specs.Records.{announces, withdraws, Use, update, lookup, strayBits, Reading, means, faulty, read}
 use Rattle.records.specs.declared.Record.{Record}
 use Rattle.records.specs.declared.Record.the-variants.{Announces, Withdraws, Faulty}
@@ -24,15 +24,14 @@ useOf false = lookup
 
 -- a prefix as address and length: no bit of the address is set behind the length
 pub record IsPrefix (address size : ℕ) : Type 0 where
-  pub fits : address < 2 ^ width ipv4
+  pub fits : address < addresses ipv4
   pub within : size ≤ width ipv4
   pub clear : strayBits (width ipv4) size address ≡ false
 
 -- the bounds that a record's fields keep
 pub record IsRoute (address size hop : ℕ) : Type 0 where
   pub prefix : IsPrefix address size
-  pub low : lowestHop ≤ hop
-  pub high : hop ≤ highestHop
+  pub may : MayAnnounce hop
 
 pub record IsFault (number : ℕ) : Type 0 where
   pub first : badPrefixLength ≤ number

@@ -12,7 +12,7 @@ use Rattle.rules.specs.Numbers.{ipv4, width}
 use Rattle.rules.specs.Records.{printTable}
 use Rattle.rules.specs.Plain.{Reached, at-first, after, WithinRules}
 use Rattle.rules.specs.Lookup.{hopOf, scanned, lookedUp}
-use Rattle.rules.specs.Writing.{smallestTable, SmallestFor}
+use Rattle.rules.specs.Writing.{smallestTable, ForwardAlike, SmallestFor}
 use Rattle.rules.proofs.Plain.{Kept, nothing-within, updated-kept}
 use Rattle.rules.proofs.Slots.{needs-nothing}
 use Rattle.rules.proofs.Smallest.{smallest-for, forward-alike}
@@ -50,6 +50,6 @@ module _ (slots : ℕ) (lent : 1 ≤ slots) (L : Ledger ℕ) (reached : Reached 
   looked-up = table-looked-up ipv4 L within default
 
 -- two ledgers that forward alike write the same bytes
-pub same-bytes : (L M : Ledger ℕ) → ((x : ℕ) → x < 4294967296 → hopOf ipv4 L x ≡ hopOf ipv4 M x)
+pub same-bytes : (L M : Ledger ℕ) → ForwardAlike ipv4 L M
     → printTable ipv4 (smallestTable ipv4 L) ≡ printTable ipv4 (smallestTable ipv4 M)
 same-bytes L M alike = ap (printTable ipv4) (forward-alike ipv4 L M alike)

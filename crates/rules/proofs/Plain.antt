@@ -51,7 +51,7 @@ meaning-proper w f good =
     elim (by-test (eqb (f .action) announceAction)) [
       | inl e ↦
           let in-range = or-none (ltb (f .hop) lowestHop) (ltb highestHop (f .hop)) (rw e at good) in
-          rw e (prefix-short w (f .size) (f .address), ltb-false _ _ (in-range .0), ltb-false _ _ (in-range .1))
+          rw e (prefix-short w (f .size) (f .address), (ltb-false _ _ (in-range .0), ltb-false _ _ (in-range .1)))
       | inr e ↦ rw e (prefix-short w (f .size) (f .address))
     ]
 

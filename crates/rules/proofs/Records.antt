@@ -79,9 +79,9 @@ pub read-announcement : (u : Use) (k : ℕ) (p : Bits) (h : ℕ) → ProperChang
     → read u k (print k (announces p h)) ≡ means (announces p h)
 unfolding read
 read-announcement u k p h ok =
-    let low : ltb h lowestHop ≡ false = le-ltb h lowestHop (ok .1) in
-    let high : ltb highestHop h ≡ false = le-ltb highestHop h (ok .2) in
-    let two : h < 65536 = omega (arith, ok .2) in
+    let low : ltb h lowestHop ≡ false = le-ltb h lowestHop (ok .1 .0) in
+    let high : ltb highestHop h ≡ false = le-ltb highestHop h (ok .1 .1) in
+    let two : h < 65536 = omega (arith, ok .1 .1) in
     let faultless : firstFault (fieldRules u (width k) (fieldsOf k (print k (announces p h)))) ≡ none =
     rules-print k p announceAction h (ok .0) two u ∙ rw (low, high) in
     ap₂ faultOr faultless
@@ -144,7 +144,7 @@ pub announcements-proper : (k : ℕ) (es : List Entry) → Each (Proper hopBound
     → Each (ProperChange (width k)) (announcements es)
 announcements-proper k [] ok real = tt
 announcements-proper k (p via h ∷ es) ok real =
-    ((ok .0 .0, real .0, let l = ok .0 .2 in omega arith), announcements-proper k es (ok .1) (real .1))
+    ((ok .0 .0, (real .0, let l = ok .0 .2 in omega arith)), announcements-proper k es (ok .1) (real .1))
 
 pub scanned-table : (k : ℕ) (es : List Entry) → Each (Proper hopBound (width k)) es → Each RealHop es
     → scanned k (printTable k es) ≡ record { refusal = none; place = 0; entries = es }

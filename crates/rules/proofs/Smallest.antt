@@ -4,7 +4,7 @@ use mathlib.Core.Path.{_≡_, refl, sym, ap, _∙_, subst}
 use mathlib.Core.Bool.{true, false, cond}
 use mathlib.Core.List.{List, [], _∷_}
 use mathlib.Core.Option.{Option, none, some}
-use Prim.Native.Nat.{ℕ, suc, _+_, _≤_, _<_, _^_}
+use Prim.Native.Nat.{ℕ, suc, _+_, _≤_}
 use native.Mathlib.Omega.{arith}
 use lib.ListN.{length}
 use borrow.Author.Tests.{ne-eqb}
@@ -24,7 +24,7 @@ use Rattle.theory.proofs.Theorem as theorem
 use Rattle.rules.specs.Numbers.{width, hopBound, lowestHop, highestHop, noRoute}
 use Rattle.rules.specs.Plain.{WithinRules}
 use Rattle.rules.specs.Lookup.{hopOf}
-use Rattle.rules.specs.Writing.{smallestTable, RealHop, SmallestFor}
+use Rattle.rules.specs.Writing.{smallestTable, ForwardAlike, RealHop, SmallestFor}
 
 held-some : (o : Option ℕ) → isHeld o ≡ true → (x : ℕ) × (o ≡ some x)
 held-some none e = never e refl
@@ -32,7 +32,7 @@ held-some (some x) e = (x, refl)
 
 -- Two ledgers give the same hop at every number of w bits exactly when they do at every string of w bits.
 module _ (k : ℕ) (L M : Ledger ℕ) where
-  numbers-strings : ((x : ℕ) → x < 2 ^ width k → hopOf k L x ≡ hopOf k M x)
+  numbers-strings : ForwardAlike k L M
       → (a : Bits) → length a ≡ width k → longest L noRoute a ≡ longest M noRoute a
   unfolding hopOf
   numbers-strings same a e =
@@ -40,12 +40,12 @@ module _ (k : ℕ) (L M : Ledger ℕ) where
       subst (λ (t : Bits). longest L noRoute t ≡ longest M noRoute t) q (same (addressOf (width k) a) (address-below (width k) a))
 
   strings-numbers : ((a : Bits) → length a ≡ width k → longest L noRoute a ≡ longest M noRoute a)
-      → (x : ℕ) → x < 2 ^ width k → hopOf k L x ≡ hopOf k M x
+      → ForwardAlike k L M
   unfolding hopOf
   strings-numbers same x l = same (bitsOf (width k) x) (bits-length (width k) x)
 
   -- two ledgers that forward alike write the same table
-  pub forward-alike : ((x : ℕ) → x < 2 ^ width k → hopOf k L x ≡ hopOf k M x) → smallestTable k L ≡ smallestTable k M
+  pub forward-alike : ForwardAlike k L M → smallestTable k L ≡ smallestTable k M
   unfolding smallestTable
   forward-alike same =
       theorem.of-forwarding hopBound (width k) (leaves only L noRoute) (leaves only M noRoute) noRoute
@@ -53,7 +53,7 @@ module _ (k : ℕ) (L M : Ledger ℕ) where
 
 module _ (k : ℕ) (L : Ledger ℕ) (ok : WithinRules (width k) L) where
   hop-high : (a : Bits) → longest L noRoute a ≤ highestHop
-  hop-high = longest-keeps (λ h. h ≤ highestHop) L noRoute (λ p h e. ok p h e .2) (omega arith)
+  hop-high = longest-keeps (λ h. h ≤ highestHop) L noRoute (λ p h e. ok p h e .1 .1) (omega arith)
 
   allowed : AllAllowed hopBound (width k) (leaves only L noRoute)
   allowed a e = only-allowed hopBound (longest L noRoute a) (let h = hop-high a in omega arith)
@@ -63,7 +63,7 @@ module _ (k : ℕ) (L : Ledger ℕ) (ok : WithinRules (width k) L) where
     hop-low a =
         let h = held-some (L []) default in
         subst (λ (g : ℕ). lowestHop ≤ g) (sym (longest-default L (h .0) noRoute (h .1) a))
-        (longest-keeps (λ g. lowestHop ≤ g) L (h .0) (λ p g e. ok p g e .1) (ok [] (h .0) (h .1) .1) a)
+        (longest-keeps (λ g. lowestHop ≤ g) L (h .0) (λ p g e. ok p g e .1 .0) (ok [] (h .0) (h .1) .1 .0) a)
 
     not-none : (a : Bits) → length a ≡ width k → leaves only L noRoute a noRoute ≡ false
     not-none a e = ne-eqb noRoute (longest L noRoute a) (let h = hop-low a in omega arith)

@@ -6,7 +6,7 @@ use mathlib.Core.Option.{Option, none, some}
 use Prim.Native.Nat.{ℕ, suc, _<_, _^_}
 use Rattle.theory.specs.Bits.{bitsOf}
 use Rattle.theory.specs.Ledger.{Ledger, Entry, _via_, isHeld, longest, load}
-use Rattle.rules.specs.Numbers.{width, noRoute, badListLength, badAction}
+use Rattle.rules.specs.Numbers.{width, addresses, noRoute, badListLength, badAction}
 use Rattle.rules.specs.Records.{announces, withdraws, lookup, Reading, means, faulty, read, recordsOf, wholeRecords}
 
 -- THE HOP OF AN ADDRESS, a number: longest match, and 0 where no held prefix begins it
@@ -47,4 +47,4 @@ lookedUp k bytes x =
 
 -- a list of bytes answers as a ledger does: the same hop for each address, all 2 ^ width of them
 abbrev pub AnswersAs : ℕ → Ledger ℕ → List ℕ → Type 0
-AnswersAs k L bytes = (x : ℕ) → x < 2 ^ width k → lookedUp k bytes x ≡ record { refusal = none; hop = hopOf k L x; place = 0 }
+AnswersAs k L bytes = (x : ℕ) → x < addresses k → lookedUp k bytes x ≡ record { refusal = none; hop = hopOf k L x; place = 0 }

@@ -1,5 +1,5 @@
 -- The numbers that document 01 fixes, each in this one place.
-use Prim.Native.Nat.{ℕ, _+_, _*_}
+use Prim.Native.Nat.{ℕ, _+_, _*_, _^_, _≤_}
 
 -- An address of IPv4 has 4 bytes. Whatever is said of records is said over the number k of an address's bytes.
 abbrev pub ipv4 : ℕ
@@ -7,6 +7,10 @@ ipv4 = 4
 
 abbrev pub width : ℕ → ℕ
 width k = 8 * k
+
+-- how many addresses there are: 4,294,967,296 of IPv4
+abbrev pub addresses : ℕ → ℕ
+addresses k = 2 ^ width k
 
 -- a record: the address, then length, action and two bytes of hop
 abbrev pub recordBytes : ℕ → ℕ
@@ -24,6 +28,9 @@ lowestHop = 1
 
 abbrev pub highestHop : ℕ
 highestHop = 64
+
+abbrev pub MayAnnounce : ℕ → Type 0
+MayAnnounce h = (lowestHop ≤ h) × (h ≤ highestHop)
 
 abbrev pub hopBound : ℕ
 hopBound = highestHop + 1

@@ -7,7 +7,7 @@ use lib.Dec.{eqb, ltb}
 use lib.ListN.{length, take, drop, getD}
 use Rattle.theory.specs.Bits.{Bits, bitsOf, addressOf, some-of}
 use Rattle.theory.specs.Ledger.{Entry, _via_}
-use Rattle.rules.specs.Numbers.{width, recordBytes, announceAction, withdrawAction, lowestHop, highestHop, badPrefixLength, strayBit, badAction, badHop}
+use Rattle.rules.specs.Numbers.{width, recordBytes, announceAction, withdrawAction, lowestHop, highestHop, MayAnnounce, badPrefixLength, strayBit, badAction, badHop}
 
 -- numbers in bytes go high byte first
 abbrev pub number : List ℕ → ℕ
@@ -25,7 +25,7 @@ pub data Change : Type 0 where
 
 -- a change that a record can carry: the prefix within the width, and an announced hop in its range
 abbrev pub ProperChange : ℕ → Change → Type 0
-ProperChange w (announces p h) = (length p ≤ w) × (lowestHop ≤ h) × (h ≤ highestHop)
+ProperChange w (announces p h) = (length p ≤ w) × MayAnnounce h
 ProperChange w (withdraws p) = length p ≤ w
 
 -- a record's bytes: the address, the length, the action, and the hop in two bytes

@@ -3,14 +3,14 @@ use mathlib.Core.Path.{_≡_}
 use mathlib.Core.Bool.{cond}
 use mathlib.Core.List.{List, []}
 use mathlib.Core.Option.{some}
-use Prim.Native.Nat.{ℕ, _≤_, _<_, _^_}
+use Prim.Native.Nat.{ℕ, _≤_, _<_}
 use lib.ListN.{length}
 use Rattle.theory.specs.Bits.{Each}
 use Rattle.theory.specs.Hops.{only, least}
 use Rattle.theory.specs.Ledger.{Ledger, Entry, _via_, isHeld, load, held}
 use Rattle.theory.specs.Smallest.{setOf, table}
 use Rattle.theory.specs.Theorem.{leaves, Sorted, Proper}
-use Rattle.rules.specs.Numbers.{width, hopBound, lowestHop, noRoute, noDefault}
+use Rattle.rules.specs.Numbers.{width, addresses, hopBound, lowestHop, noRoute, noDefault}
 use Rattle.rules.specs.Lookup.{hopOf}
 
 -- THE SMALLEST TABLE of a ledger: each address has the set that holds its one hop
@@ -25,9 +25,12 @@ pub data Written : Type 0 where
 abbrev pub written : ℕ → Ledger ℕ → Written
 written k L = cond (isHeld (L [])) (writes (smallestTable k L)) (refuses noDefault)
 
--- a list of entries forwards as a ledger does: the same hop for each address, all 2 ^ width of them
+-- two ledgers forward alike: the same hop for each address, all of them; a list of entries does as the ledger that it makes
+abbrev pub ForwardAlike : ℕ → Ledger ℕ → Ledger ℕ → Type 0
+ForwardAlike k L M = (x : ℕ) → x < addresses k → hopOf k L x ≡ hopOf k M x
+
 abbrev pub ForwardsAs : ℕ → Ledger ℕ → List Entry → Type 0
-ForwardsAs k L es = (x : ℕ) → x < 2 ^ width k → hopOf k (load es) x ≡ hopOf k L x
+ForwardsAs k L es = ForwardAlike k (load es) L
 
 abbrev pub RealHop : Entry → Type 0
 RealHop (p via h) = lowestHop ≤ h

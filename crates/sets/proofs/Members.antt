@@ -8,7 +8,7 @@ use lib.Dec.{eqb}
 use lib.ListN.{length, getD, set, length-set}
 use lib.Seq.{getD-set-same, getD-set-other}
 use Rattle.theory.specs.Hops.{only, some-below, least, common, join}
-use Rattle.rules.specs.Numbers.{lowestHop, highestHop, hopBound}
+use Rattle.rules.specs.Numbers.{lowestHop, highestHop, MayAnnounce, hopBound}
 use Rattle.sets.specs.declared.HopSet.{HopSet}
 use Rattle.sets.specs.Sets.{wordMembers, members, setIn, Keeps}
 use Rattle.sets.proofs.Words.{member-digit, no-member, one-member, apart-test, either-is-join, both-is-join}
@@ -21,9 +21,9 @@ pub has-none : (s : HopSet) (h : ℕ) → h < lowestHop → false ≡ members s 
 unfolding members
 has-none s h l = no-member (s .word) h l
 
-pub only-is : (h : ℕ) → lowestHop ≤ h → h ≤ highestHop → members (record { word = 1 * 2 ^ (h - 1) % 2 ^ highestHop }) ≡ only h
+pub only-is : (h : ℕ) → MayAnnounce h → members (record { word = 1 * 2 ^ (h - 1) % 2 ^ highestHop }) ≡ only h
 unfolding members
-only-is h l m = one-member h l m
+only-is h may = one-member h (may .0) (may .1)
 
 module _ (s t : HopSet) where
   pub apart-is : s .word < 2 ^ highestHop → eqb (bitAnd (s .word) (t .word)) 0 ≡ not (some-below hopBound (common (members s) (members t)))

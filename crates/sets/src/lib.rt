@@ -3,7 +3,7 @@ ghost use mathlib.Core.Path.{_≡_};
 ghost use mathlib.Core.Bool.{not};
 ghost use Prim.Native.Nat.{_≤_};
 ghost use Rattle.theory.specs.Hops.{only, some-below, least, common, join};
-ghost use Rattle.rules.specs.Numbers.{lowestHop, highestHop, hopBound};
+ghost use Rattle.rules.specs.Numbers.{highestHop, MayAnnounce, hopBound};
 ghost use Rattle.sets.specs.Sets.{members, setIn, HasWords, Keeps};
 use numbers::HIGHEST_HOP;
 use numbers::LOWEST_HOP;
@@ -15,7 +15,7 @@ pub struct HopSet {
 
 // The set of one hop.
 pub fn only(hop: u32) -> HopSet
-    requires { ⌜ (lowestHop ≤ hop) × (hop ≤ highestHop) ⌝ }
+    requires { ⌜ MayAnnounce hop ⌝ }
     ensures { λ r. ⌜ members r ≡ only hop ⌝ }
 {
     HopSet {

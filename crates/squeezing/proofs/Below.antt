@@ -16,12 +16,11 @@ use Rattle.theory.specs.Ledger.{nothing, isHeld}
 use Rattle.theory.proofs.Hops.{never}
 use Rattle.theory.proofs.Longest.{none-some}
 use Rattle.theory.proofs.OneHop.{longest-nothing, set-throughout}
-use Rattle.rules.specs.Numbers.{hopBound}
+use Rattle.rules.specs.Numbers.{hopBound, MayAnnounce}
 use Rattle.memory.specs.Layout.{Tree, Memory, slots, Shaped, Whole, child, find, hopAt, ledgerOf}
 use Rattle.memory.proofs.Find.{below-or, none-below, one-string}
 use Rattle.memory.proofs.Ledger.{read-range, no-hop}
 use Rattle.squeezing.specs.Below.{walk, heldBelow, leavesBelow, setBelow, descend, LiesBelow}
-use Rattle.squeezing.specs.Stored.{HopInRange}
 
 module _ (m : Memory) (whole : Whole m) where
   -- NO SLOT HOLDS NOTHING, so its leaves have the one hop that is in force above, throughout
@@ -47,7 +46,7 @@ module _ (m : Memory) (whole : Whole m) where
   walk-slot (b ∷ s) (suc w) p h = walk-slot s w (child (m .tree) b p) h
 
 -- and is a hop that may be announced
-pub walk-range : (m : Memory) (s : Bits) (w p h : ℕ) → walk m s w p ≡ some h → HopInRange h
+pub walk-range : (m : Memory) (s : Bits) (w p h : ℕ) → walk m s w p ≡ some h → MayAnnounce h
 walk-range m [] w p h e = read-range (getD (m .hop) p 0) h e
 walk-range m (b ∷ s) zero p h e = none-some e refl
 walk-range m (b ∷ s) (suc w) p h e = walk-range m s w (child (m .tree) b p) h e

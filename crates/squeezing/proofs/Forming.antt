@@ -16,7 +16,7 @@ use Rattle.theory.proofs.Hops.{never, only-allowed}
 use Rattle.theory.proofs.Longest.{longest-keeps}
 use Rattle.theory.proofs.Pigeonhole.{count-within}
 use Rattle.theory.proofs.Splits.{splits-held, splits-throughout}
-use Rattle.rules.specs.Numbers.{hopBound, highestHop}
+use Rattle.rules.specs.Numbers.{hopBound, highestHop, MayAnnounce}
 use Rattle.memory.specs.Layout.{Tree, Memory, slots, Whole, child, find, hopAt}
 use Rattle.memory.proofs.Find.{none-below, one-string, not-none}
 use Rattle.memory.proofs.Ledger.{read-range}
@@ -24,7 +24,7 @@ use Rattle.sets.specs.declared.HopSet.{HopSet}
 use Rattle.sets.specs.Sets.{members, setIn, Keeps}
 use Rattle.squeezing.specs.declared.Formed.{Formed}
 use Rattle.squeezing.specs.Below.{inForce, descend, heldBelow, leavesBelow, setBelow, LiesBelow}
-use Rattle.squeezing.specs.Stored.{Stored, HopInRange, CanForm, Forms}
+use Rattle.squeezing.specs.Stored.{Stored, CanForm, Forms}
 use Rattle.squeezing.proofs.Below.{leaves-none, set-none, walk-range, walk-slot, descend-find, append-same, sides-apart, own-apart, lies-down}
 
 module _ (m : Memory) where
@@ -54,7 +54,7 @@ module _ (m : Memory) where
     )
 
     -- WHAT IS NO SLOT is answered without a look: one hop throughout
-    pub form-none : (a : List ℕ) (p w d : ℕ) (r : Formed) → HopInRange d → n ≤ p → members (r .set) ≡ only d → r .splits ≡ 0
+    pub form-none : (a : List ℕ) (p w d : ℕ) (r : Formed) → MayAnnounce d → n ≤ p → members (r .set) ≡ only d → r .splits ≡ 0
         → Forms m a p w d a r
     form-none a p w d r real l is none-split = record {
       set = is ∙ sym (set-none m whole w p d l);
@@ -128,24 +128,24 @@ module _ (m : Memory) where
         let one = one-string (m .tree) (whole .shaped) (reverse s ++ q) (reverse r ++ q) same-slot (omega (arith, descend-find (m .tree) s q)) in
         sym (reverse-reverse s) ∙ ap reverse (append-same (reverse s) (reverse r) q one) ∙ reverse-reverse r)
 
-    pub allowed : (d : ℕ) → HopInRange d → AllAllowed hopBound w (leavesBelow w m (find (m .tree) q) d)
+    pub allowed : (d : ℕ) → MayAnnounce d → AllAllowed hopBound w (leavesBelow w m (find (m .tree) q) d)
     allowed d real a e =
         let high = longest-keeps (λ h. h ≤ highestHop) below-it d (λ s h e. walk-range m s w (find (m .tree) q) h e .1) (real .1) a in
         only-allowed hopBound (longest below-it d a) (omega arith)
 
-    pub splits-room : (d : ℕ) → HopInRange d → splits hopBound w (leavesBelow w m (find (m .tree) q) d) ≤ n
+    pub splits-room : (d : ℕ) → MayAnnounce d → splits hopBound w (leavesBelow w m (find (m .tree) q) d) ≤ n
     splits-room d real = omega (arith, splits-held hopBound w below-it d (allowed d real), held-room)
 
 -- ONE CALL OF THE RECURSION, in the code's terms.
-else-range : (m : Memory) (p d : ℕ) → HopInRange d → HopInRange (inForce m p d)
+else-range : (m : Memory) (p d : ℕ) → MayAnnounce d → MayAnnounce (inForce m p d)
 else-range m p d real = by-hop (hopAt m p) (λ h. read-range (getD (m .hop) p 0) h)
   where
-    by-hop : (o : Option ℕ) → ((h : ℕ) → o ≡ some h → HopInRange h) → HopInRange (orElse o d)
+    by-hop : (o : Option ℕ) → ((h : ℕ) → o ≡ some h → MayAnnounce h) → MayAnnounce (orElse o d)
     by-hop none range = real
     by-hop (some h) range = range h refl
 
-pub in-range : (m : Memory) {a : List ℕ} {p d e : ℕ} → CanForm m a p d → e ≡ inForce m p d → HopInRange e
-in-range m {p = p} {d = d} can here = subst HopInRange (sym here) (else-range m p d (can .hop))
+pub in-range : (m : Memory) {a : List ℕ} {p d e : ℕ} → CanForm m a p d → e ≡ inForce m p d → MayAnnounce e
+in-range m {p = p} {d = d} can here = subst MayAnnounce (sym here) (else-range m p d (can .hop))
 
 pub can-child : (m : Memory) (s : Bool) {a b : List ℕ} {p d c e : ℕ} → CanForm m a p d → length b ≡ length a → e ≡ inForce m p d
     → c ≡ child (m .tree) s p → CanForm m b c e

@@ -14,7 +14,7 @@ use Rattle.theory.specs.Theorem.{AllAllowed}
 use Rattle.theory.proofs.Hops.{only-allowed}
 use Rattle.theory.proofs.OneHop.{table-throughout}
 use Rattle.theory.proofs.Sets.{set-allowed, choose-member}
-use Rattle.rules.specs.Numbers.{width, hopBound, highestHop}
+use Rattle.rules.specs.Numbers.{width, hopBound, highestHop, MayAnnounce}
 use Rattle.memory.specs.declared.Path.{Path}
 use Rattle.memory.specs.Path.{pathBit}
 use Rattle.memory.specs.Layout.{Memory, slots, Whole, child}
@@ -25,7 +25,7 @@ use Rattle.printing.specs.Printing.{BitSet, ClearFrom}
 use Rattle.printing.proofs.Paths.{clear-more, clear-front, set-front, set-clear}
 use Rattle.squeezing.specs.declared.Standing.{Standing}
 use Rattle.squeezing.specs.Below.{inForce, leavesBelow, setBelow}
-use Rattle.squeezing.specs.Stored.{HopInRange, StoredAt, Stored, CanForm}
+use Rattle.squeezing.specs.Stored.{StoredAt, Stored, CanForm}
 use Rattle.squeezing.specs.Entries.{entryOf, hopAfter, tableBelow, Room, Puts, IsShort, stringOf, CanEnter, Enters, CanWrite}
 use Rattle.squeezing.proofs.Below.{leaves-none, set-none}
 use Rattle.squeezing.proofs.Forming.{allowed, can-child}
@@ -35,7 +35,7 @@ use Rattle.squeezing.proofs.Entering.{room-own, room-zero, room-one, pu
 throughout : (N w : ℕ) (F : Leaves) (d c : ℕ) → F ≡ (λ a. only d) → d < N → table N w F c ≡ here (entry N (only d) c)
 throughout N w F d c e l = ap (λ G. table N w G c) e ∙ table-throughout N (only d) w c (only-allowed N d l .member)
 
-table-none : (m : Memory) → Whole m → (w p d c : ℕ) → HopInRange d → slots (m .tree) ≤ p
+table-none : (m : Memory) → Whole m → (w p d c : ℕ) → MayAnnounce d → slots (m .tree) ≤ p
     → tableBelow w m p d c ≡ here (entryOf (setBelow w m p d) c)
 unfolding tableBelow entryOf
 table-none m whole w p d c real l =

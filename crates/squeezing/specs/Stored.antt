@@ -2,11 +2,11 @@
 use mathlib.Core.Path.{_≡_}
 use mathlib.Core.Bool.{true, false}
 use mathlib.Core.List.{List}
-use Prim.Native.Nat.{ℕ, zero, suc, _≤_, _<_}
+use Prim.Native.Nat.{ℕ, zero, suc, _<_}
 use lib.ListN.{length}
 use Rattle.theory.specs.Bits.{Bits}
 use Rattle.theory.specs.Smallest.{splits}
-use Rattle.rules.specs.Numbers.{hopBound, lowestHop, highestHop, scratchWords}
+use Rattle.rules.specs.Numbers.{hopBound, MayAnnounce, scratchWords}
 use Rattle.memory.specs.Layout.{Memory, slots, Whole, child, find}
 use Rattle.sets.specs.Sets.{members, setIn}
 use Rattle.squeezing.specs.declared.Formed.{Formed}
@@ -22,17 +22,13 @@ Stored m scratch (suc w) p d =
     × Stored m scratch w (child (m .tree) false p) (inForce m p d)
     × Stored m scratch w (child (m .tree) true p) (inForce m p d)
 
--- a hop that may be announced, so that a set can hold it
-abbrev pub HopInRange : ℕ → Type 0
-HopInRange d = (lowestHop ≤ d) × (d ≤ highestHop)
-
 -- FORMING SETS asks for the words of all slots, a slot that is a string's or none, and a hop in force above; ..
 pub record CanForm (m : Memory) (scratch : List ℕ) (p d : ℕ) : Type 0 where
   pub whole : Whole m
   pub sized : length scratch ≡ scratchWords (slots (m .tree))
   pub string : Bits
   pub lies : find (m .tree) string ≡ p
-  pub hop : HopInRange d
+  pub hop : MayAnnounce d
 
 -- .. and gives the slot's set and the number of strings whose children's sets are apart, the sets below kept and no slot's
 -- else touched

@@ -4,12 +4,13 @@ ghost use mathlib.Core.Path.{_≡_};
 ghost use Prim.Native.Nat.{_<_, _≤_};
 ghost use Rattle.theory.specs.Hops.{only};
 ghost use Rattle.theory.specs.Smallest.{split};
-ghost use Rattle.rules.specs.Numbers.{hopBound, highestHop};
+ghost use Rattle.rules.specs.Numbers.{hopBound, highestHop, MayAnnounce};
 ghost use Rattle.memory.specs.Layout.{memoryOf};
 ghost use Rattle.sets.specs.Sets.{members, setIn, HasWords};
-ghost use Rattle.squeezing.specs.Stored.{HopInRange, CanForm, Forms};
+ghost use Rattle.squeezing.specs.Stored.{CanForm, Forms};
 ghost use Rattle.squeezing.specs.Entries.{Puts, stringOf, tableBelow, CanEnter, Enters, CanWrite};
 use memory::Path;
+use numbers::FIELDS;
 use sets::HopSet;
 
 // The set of a string, and how many strings from it on have children whose sets are apart.
@@ -93,7 +94,7 @@ pub struct Standing {
 
 // The set of a slot's string as it was kept; where there is no slot, of `slots`, one hop goes throughout.
 fn set_of(scratch: &[u64], slot: usize, slots: usize, above: u32) -> HopSet
-    requires { ⌜ HopInRange above × (slot < slots → HasWords (now scratch) slot) ⌝ }
+    requires { ⌜ MayAnnounce above × (slot < slots → HasWords (now scratch) slot) ⌝ }
     ensures there { λ r. ⌜ (slot < slots → members r ≡ setIn (now (scratch .entry)) slot) ⌝ }
     ensures beyond { λ r. ⌜ (slots ≤ slot → members r ≡ only above) ⌝ }
 {
@@ -123,7 +124,7 @@ fn enter(
     printing::put_record(output, at, bytes, path, 8 * bytes - left, hop);
     Standing {
         hop,
-        at: at + bytes + 4,
+        at: at + bytes + FIELDS,
     }
 }
 

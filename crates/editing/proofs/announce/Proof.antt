@@ -78,7 +78,7 @@ loop-again c =
 add-hop : tie.Need-add-hop Inv-loop μ-loop
 add-hop c =
     let entry = c .before .before .before .before .before .before in
-    omega (arith, entry .pre .high)
+    omega (arith, entry .pre .may .1)
 
 mul-hop : tie.Need-mul-hop Inv-loop μ-loop
 mul-hop c = omega (arith, c .before .loop .inv .1 .below, c .before .loop .inv .1 .route .whole .hops)

@@ -14,7 +14,7 @@ shl-t4 : tie.Need-shl-t4
 shl-t4 c = search needs
 
 returns : tie.Need-returns
-returns c = only-is _ (c .pre .0) (c .pre .1)
+returns c = only-is _ (c .pre)
 
 pub only-spec : {M : Type 1} → statement M
 only-spec = tie.close (tie.spec sub-t2 cast-t3 shl-t4 returns)
