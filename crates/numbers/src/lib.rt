@@ -37,6 +37,16 @@ pub const NO_ROUTE: u32 = 0;
 // Slots that may be lent: at least one, and at most this many.
 pub const MOST_SLOTS: usize = 65536;
 
+// The fresh ledger that the daemon's table call and the program have of their own: its slots, and the words of scratch for them.
+pub const OWN_SLOTS: usize = 4096;
+
+pub const OWN_SCRATCH: usize = OWN_SLOTS;
+
+// The bytes that the program takes, and what stands for the action in a record that it writes for a refusal.
+pub const MOST_INPUT: usize = 4096;
+
+pub const REFUSAL: u8 = 255;
+
 // The refusals.
 pub const BAD_SLICES: u32 = 1;
 
@@ -59,3 +69,5 @@ pub const NO_SLOTS: u32 = 9;
 pub const NO_DEFAULT: u32 = 10;
 
 pub const SHORT_OUTPUT: u32 = 11;
+
+pub const LONG_INPUT: u32 = 12;

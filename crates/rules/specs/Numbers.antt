@@ -43,6 +43,18 @@ noRoute = 0
 abbrev pub mostSlots : ℕ
 mostSlots = 65536
 
+-- the slots of the fresh ledger that the daemon's table call and the program have of their own
+abbrev pub ownSlots : ℕ
+ownSlots = 4096
+
+-- the bytes that the program takes
+abbrev pub mostInput : ℕ
+mostInput = 4096
+
+-- what stands in the place of the action in a record that the program writes for a refusal
+abbrev pub refusalMark : ℕ
+refusalMark = 255
+
 -- the words of scratch that writing asks for: one u64 a slot
 abbrev pub scratchWords : ℕ → ℕ
 scratchWords slots = slots
