@@ -1,5 +1,6 @@
 -- AN ANSWER AS C GETS IT: a struct with document 01's number, 0 where nothing was refused, and the values beside it.
 use mathlib.Core.Path.{_≡_}
+use mathlib.Core.List.{[]}
 use mathlib.Core.Option.{Option, none, some}
 use Prim.Native.Nat.{ℕ}
 use Rattle.rules.specs.Lookup.{Answer}
@@ -8,11 +9,11 @@ use Rattle.lists.specs.Promise.{answerOf}
 use Rattle.ledger.specs.declared.Updated.{Updated}
 use Rattle.ledger.specs.Promise.{reportOf}
 use Rattle.writing.specs.declared.Wrote.{Wrote}
-use Rattle.writing.specs.declared.Wrote.the-variants.{Table, Refused}
+use Rattle.writing.specs.Promise.{outcomeOf}
 use Rattle.answers.specs.declared.FoundAnswer.{FoundAnswer}
 use Rattle.answers.specs.declared.CountAnswer.{CountAnswer}
 
--- no refusal has the number 0, so 0 says that nothing was refused
+-- no refusal has the number 0 (rules/proofs/Numbered), so 0 says that nothing was refused
 abbrev pub numberOf : Option ℕ → ℕ
 numberOf none = 0
 numberOf (some x) = x
@@ -23,16 +24,7 @@ foundFor a = record { number = numberOf (a .refusal); hop = a .hop; place = a .p
 abbrev pub countFor : Option ℕ → ℕ → CountAnswer
 countFor refusal count = record { number = numberOf refusal; count = count }
 
--- what became of a writing, without what it leaves
-abbrev pub refusalOf : Wrote → Option ℕ
-refusalOf (Table count) = none
-refusalOf (Refused number count) = some number
-
-abbrev pub countOf : Wrote → ℕ
-countOf (Table count) = count
-countOf (Refused number count) = count
-
--- THE STRUCTS FOR THE ENUMS
+-- THE STRUCTS FOR THE ENUMS; of a writing the answer alone, without what it leaves
 pub record FoundSo (answer : Found) (r : FoundAnswer) : Type 0 where
   pub told : r ≡ foundFor (answerOf answer)
 
@@ -40,4 +32,4 @@ pub record UpdatedSo (answer : Updated) (r : CountAnswer) : Type 0 where
   pub told : r ≡ countFor (reportOf answer .refusal) (reportOf answer .count)
 
 pub record WroteSo (answer : Wrote) (r : CountAnswer) : Type 0 where
-  pub told : r ≡ countFor (refusalOf answer) (countOf answer)
+  pub told : r ≡ countFor (outcomeOf answer [] [] .refusal) (outcomeOf answer [] [] .count)

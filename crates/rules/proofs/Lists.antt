@@ -29,7 +29,7 @@ entries-count (faulty x ∷ rs) e = none-some refl e
 entries-count (means (withdraws p) ∷ rs) e = none-some refl e
 entries-count (means (announces p h) ∷ rs) e = ap suc (entries-count rs e)
 
-pieces-count : (size m : ℕ) (bytes : List ℕ) → length (pieces size m bytes) ≡ m
+pub pieces-count : (size m : ℕ) (bytes : List ℕ) → length (pieces size m bytes) ≡ m
 pieces-count size zero bytes = refl
 pieces-count size (suc m) bytes = ap suc (pieces-count size m (drop size bytes))
 

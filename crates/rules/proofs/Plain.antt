@@ -20,7 +20,7 @@ use Rattle.rules.specs.Records.{Change, announces, withdraws, ProperChan
 use Rattle.rules.specs.Plain.{needs, Outcome, taken, refused, ifRoom, change, apply, Applied, oneMore, next, applyAll, updated, WithinRules, Counted}
 
 -- A refused record is not taken, and a faulty one has no meaning.
-refused-taken : {A : Type 0} {x : ℕ} {M : Ledger ℕ} → refused x ≡ taken M → A
+pub refused-taken : {A : Type 0} {x : ℕ} {M : Ledger ℕ} → refused x ≡ taken M → A
 refused-taken e = absurd (let z : _≡_ {A = ℕ} 0 1 = cc in omega arith)
 
 faulty-means : {A : Type 0} {x : ℕ} {c : Change} → faulty x ≡ means c → A

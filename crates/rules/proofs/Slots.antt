@@ -66,7 +66,7 @@ module _ {A : Type 0} (w : ℕ) (L : Ledger A) (s : Bits) where
 
 -- A ledger that holds no more needs no more slots: so a withdrawal is never refused for want of room.
 module _ {A : Type 0} (p q : A → Bool) (more : (x : A) → p x ≡ true → q x ≡ true) where
-  count-mono : (xs : List A) → count p xs ≤ count q xs
+  pub count-mono : (xs : List A) → count p xs ≤ count q xs
   count-mono [] = omega arith
   count-mono (x ∷ xs) =
       let r = count-mono xs in

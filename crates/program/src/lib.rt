@@ -1,0 +1,47 @@
+// What the program writes for what it reads, on slices: the smallest table, or one record that tells the refusal.
+ghost use Rattle.program.specs.Promise.{Answers, Refuses};
+use numbers::ADDRESS;
+use numbers::ACTION_AT;
+use numbers::HOP_AT;
+use numbers::LONG_INPUT;
+use numbers::MOST_INPUT;
+use numbers::NO_DEFAULT;
+use numbers::RECORD;
+use numbers::REFUSAL;
+use numbers::SIZE_AT;
+use writing::Wrote;
+
+// One record tells the refusal: the place, high byte first, the number where a prefix's length stands, the mark where its action
+// does, and zeros.
+fn refuse(output: &mut [u8; MOST_INPUT], number: u8, place: u32) -> usize
+    ensures { λ r. ⌜ Refuses (now (output .entry)) number place (now (output .exit)) r ⌝ }
+{
+    output[0] = (place / 16777216) as u8;
+    output[1] = (place / 65536 % 256) as u8;
+    output[2] = (place / 256 % 256) as u8;
+    output[3] = (place % 256) as u8;
+    output[SIZE_AT] = number;
+    output[ACTION_AT] = REFUSAL;
+    output[HOP_AT] = 0;
+    output[HOP_AT + 1] = 0;
+    RECORD
+}
+
+// The bytes for an input stand at the start of the output, so many; a table never has more bytes than its list, so they fit.
+pub fn answer(input: &[u8], output: &mut [u8; MOST_INPUT]) -> usize
+    ensures { λ r. ⌜ Answers (now (input .entry)) (now (output .entry)) (now (output .exit)) r ⌝ }
+{
+    if input.len() > MOST_INPUT {
+        return refuse(output, LONG_INPUT as u8, 0);
+    }
+    let wrote = fresh::table(input, output);
+    match wrote {
+        Wrote::Table { count } => count * RECORD,
+        Wrote::Refused { number, count } => {
+            if number == NO_DEFAULT {
+                return refuse(output, number as u8, 0);
+            }
+            refuse(output, number as u8, count as u32)
+        }
+    }
+}
