@@ -4,7 +4,7 @@ use mathlib.Core.Path.{_≡_}
 use mathlib.Core.Bool.{cond}
 use mathlib.Core.List.{List, [], _∷_, _++_}
 use mathlib.Core.Option.{Option, none, some}
-use Prim.Native.Nat.{ℕ}
+use Prim.Native.Nat.{ℕ, _≤_, _<_}
 use lib.Dec.{ltb}
 use lib.ListN.{length, drop}
 use Rattle.theory.specs.Ledger.{nothing}
@@ -36,10 +36,14 @@ writesFor input =
 -- the bytes stand at the start of the output; those behind them stay as they were, and are not written out
 pub record Stands (bytes output output' : List ℕ) (r : ℕ) : Type 0 where
   pub count : r ≡ length bytes
-  pub bytes : output' ≡ bytes ++ drop (length bytes) output
+  pub left : output' ≡ bytes ++ drop (length bytes) output
 
-abbrev pub Answers : List ℕ → List ℕ → List ℕ → ℕ → Type 0
-Answers input = Stands (writesFor input)
+-- THE PROMISE: an output of 4,096 bytes is always enough; a shorter one is left alone, and no byte is to be written
+pub record Answers (input output output' : List ℕ) (r : ℕ) : Type 0 where
+  pub stands : mostInput ≤ length output → Stands (writesFor input) output output' r
+  pub no-room : length output < mostInput → (r ≡ 0) × (output' ≡ output)
+  pub within : r ≤ length output'
 
-abbrev pub Refuses : List ℕ → ℕ → ℕ → List ℕ → ℕ → Type 0
-Refuses output number place = Stands (refusalRecord number place) output
+-- the step inside
+pub record Refuses (number place : ℕ) (output output' : List ℕ) (r : ℕ) : Type 0 where
+  pub tells : Stands (refusalRecord number place) output output' r

@@ -1,6 +1,8 @@
 // What the program writes for what it reads, on slices: the smallest table, or one record that tells the refusal.
+ghost use Prim.Native.Nat.{_≤_};
+ghost use lib.ListN.{length};
+ghost use Rattle.rules.specs.Numbers.{ipv4, recordBytes};
 ghost use Rattle.program.specs.Promise.{Answers, Refuses};
-use numbers::ADDRESS;
 use numbers::ACTION_AT;
 use numbers::HOP_AT;
 use numbers::LONG_INPUT;
@@ -13,8 +15,9 @@ use writing::Wrote;
 
 // One record tells the refusal: the place, high byte first, the number where a prefix's length stands, the mark where its action
 // does, and zeros.
-fn refuse(output: &mut [u8; MOST_INPUT], number: u8, place: u32) -> usize
-    ensures { λ r. ⌜ Refuses (now (output .entry)) number place (now (output .exit)) r ⌝ }
+fn refuse(output: &mut [u8], number: u8, place: u32) -> usize
+    requires { ⌜ recordBytes ipv4 ≤ length (now output) ⌝ }
+    ensures { λ r. ⌜ Refuses number place (now (output .entry)) (now (output .exit)) r ⌝ }
 {
     output[0] = (place / 16777216) as u8;
     output[1] = (place / 65536 % 256) as u8;
@@ -27,10 +30,14 @@ fn refuse(output: &mut [u8; MOST_INPUT], number: u8, place: u32) -> usize
     RECORD
 }
 
-// The bytes for an input stand at the start of the output, so many; a table never has more bytes than its list, so they fit.
-pub fn answer(input: &[u8], output: &mut [u8; MOST_INPUT]) -> usize
+// The bytes for an input, at the start of the output: so many. A table never has more bytes than its list, so an output that is as
+// long as the longest input is always enough; a shorter one is left alone.
+pub fn answer(input: &[u8], output: &mut [u8]) -> usize
     ensures { λ r. ⌜ Answers (now (input .entry)) (now (output .entry)) (now (output .exit)) r ⌝ }
 {
+    if output.len() < MOST_INPUT {
+        return 0;
+    }
     if input.len() > MOST_INPUT {
         return refuse(output, LONG_INPUT as u8, 0);
     }
