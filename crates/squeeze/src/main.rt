@@ -1,5 +1,7 @@
 // The program: update records from standard input to the end, and the smallest table to standard output, or one record that tells the
 // refusal. What is written for what was read is `program::answer`; here is only the reading and the writing.
+ghost use Prim.Native.Nat.{_≤_};
+ghost use lib.ListN.{length};
 ghost use Rattle.squeeze.specs.Reading.{Filling};
 use libc::STDIN_FILENO;
 use libc::STDOUT_FILENO;
@@ -11,25 +13,26 @@ enum Filled {
     Failed,
 }
 
-// One read: how many bytes came, 0 at the end of the input.
-fn read_some(buffer: &mut [u8]) -> Filled
-    ensures { λ r. ⌜ Filling (now (buffer .exit)) r ⌝ }
+// One read behind the bytes that are there: how many came, 0 at the end of the input.
+fn read_behind(buffer: &mut [u8], done: usize) -> Filled
+    requires { ⌜ done ≤ length (now buffer) ⌝ }
+    ensures { λ r. ⌜ Filling done (now (buffer .exit)) r ⌝ }
 {
-    let got = libc::read(STDIN_FILENO, buffer);
+    let got = libc::read(STDIN_FILENO, &mut buffer[done..]);
     if got < 0 {
         return Filled::Failed;
     }
-    let count = io::count(got, buffer);
+    let count = io::count(got, &buffer[done..]);
     Filled::Bytes { count }
 }
 
 // Reads until the buffer is full or the input ends.
 fn fill(buffer: &mut [u8]) -> Filled
-    ensures { λ r. ⌜ Filling (now (buffer .exit)) r ⌝ }
+    ensures { λ r. ⌜ Filling 0 (now (buffer .exit)) r ⌝ }
 {
     let mut done: usize = 0;
     while done < buffer.len() {
-        let some = read_some(&mut buffer[done..]);
+        let some = read_behind(buffer, done);
         let Filled::Bytes { count } = some else {
             return Filled::Failed;
         };

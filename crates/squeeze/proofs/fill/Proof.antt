@@ -1,78 +1,63 @@
+-- The bytes that came lie within the buffer: those that were there, and behind them those of the last read.
+use mathlib.Core.Path.{_≡_, refl, subst}
+use Prim.Native.Nat.{_-_, _≤_}
+use native.Mathlib.Omega.{arith}
+use lib.ListN.{length}
+use Rattle.squeeze.specs.Reading.{Within}
+use borrow.Author.Needs.{needs}
 use Rattle.squeeze.proofs.fill.Statement.{statement}
 use Rattle.squeeze.proofs.fill.Tie as tie
-use Rattle.squeeze.proofs.fill.Reads as reads
-use Rattle.squeeze.proofs.fill.Lts as lts
-use Rattle.squeeze.proofs.read_some.Reads as read-some-reads
 
 abbrev Inv-loop : tie.InvT-loop
-Inv-loop buffer₀ done₀ buffer done = ?
+Inv-loop buffer₀ done₀ buffer done = (done ≤ length buffer) × (length buffer ≡ length buffer₀)
 
 abbrev μ-loop : tie.MeasureT-loop
-μ-loop buffer₀ done₀ buffer done = ?
+μ-loop buffer₀ done₀ buffer done = length buffer - done
 
--- src/main.rt:31:5
 loop-holds : tie.Need-loop-holds Inv-loop μ-loop
-loop-holds c = ?
+loop-holds c = (omega arith, refl)
 
--- src/main.rt:32:30
-sub-read-some : tie.Need-sub-read-some Inv-loop μ-loop
-sub-read-some c = ?
+read-behind-requires : tie.Need-read-behind-requires Inv-loop μ-loop
+read-behind-requires c κs = search needs
 
--- src/main.rt:32:30
-part-read-some-start : tie.Need-part-read-some-start Inv-loop μ-loop
-part-read-some-start c = ?
-
--- src/main.rt:32:30
-part-read-some-end : tie.Need-part-read-some-end Inv-loop μ-loop
-part-read-some-end c = ?
-
--- src/main.rt:32:13
-read-some-requires : tie.Need-read-some-requires Inv-loop μ-loop
-read-some-requires c κs = ?
-
--- src/main.rt:33:29
 enum-known-some : tie.Need-enum-known-some Inv-loop μ-loop
-enum-known-some c = ?
+enum-known-some c = search needs
 
--- src/main.rt:34:13
 enum-told : tie.Need-enum-told Inv-loop μ-loop
-enum-told c = ?
+enum-told c = search needs
 
--- src/main.rt:34:13
 same-length : tie.Need-same-length Inv-loop μ-loop
-same-length c = ?
+same-length c = omega (arith, c .before .before .before .before .read-behind .kept .0, c .before .before .before .before .before .before .before .loop .inv .1)
 
--- src/main.rt:34:13
 returns : tie.Need-returns Inv-loop μ-loop
-returns c = ?
+returns c = record { within = tt }
 
--- src/main.rt:37:13
 same-length-2 : tie.Need-same-length-2 Inv-loop μ-loop
-same-length-2 c = ?
+same-length-2 c = omega (arith, c .before .before .before .before .before .before .read-behind .kept .0, c .before .before .before .before .before .before .before .before .before .loop .inv .1)
 
--- src/main.rt:37:13
 returns-2 : tie.Need-returns-2 Inv-loop μ-loop
-returns-2 c = ?
+returns-2 c = record { within = omega (arith, c .before .before .before .before .before .before .before .before .before .loop .inv .0, c .before .before .before .before .before .before .read-behind .kept .0) }
 
--- src/main.rt:39:9
 add-done : tie.Need-add-done Inv-loop μ-loop
-add-done c = ?
+add-done c =
+    let behind = subst (Within _ _) (c .before .before .some .given .1) (c .before .before .before .before .before .before .read-behind .ensures .within) in
+    omega (arith, behind, c .before .before .before .before .before .before .read-behind .kept .0, c .before .before .before .before .before .before .before .before .before .loop .inv .1, c .before .before .before .before .before .before .before .before .before .before .before .good .0 .0)
 
--- src/main.rt:31:5
 loop-less : tie.Need-loop-less Inv-loop μ-loop
-loop-less c = ?
+loop-less c =
+    let behind = subst (Within _ _) (c .before .before .some .given .1) (c .before .before .before .before .before .before .read-behind .ensures .within) in
+    omega (arith, behind, c .before .before .before .before .before .before .read-behind .kept .0, c .if1 .left)
 
--- src/main.rt:31:5
 loop-again : tie.Need-loop-again Inv-loop μ-loop
-loop-again c = ?
+loop-again c =
+    let behind = subst (Within _ _) (c .before .before .some .given .1) (c .before .before .before .before .before .before .read-behind .ensures .within) in
+    (behind, omega (arith, c .before .before .before .before .before .before .read-behind .kept .0, c .before .before .before .before .before .before .before .before .before .loop .inv .1))
 
--- src/main.rt:27:1
 same-length-3 : tie.Need-same-length-3 Inv-loop μ-loop
-same-length-3 c = ?
+same-length-3 c = c .before .loop .inv .1
 
--- src/main.rt:27:1
 returns-3 : tie.Need-returns-3 Inv-loop μ-loop
-returns-3 c = ?
+returns-3 c = record { within = omega (arith, c .before .loop .inv .0) }
 
 pub fill-spec : {M : Type 1} → statement M
 fill-spec =
@@ -81,10 +66,7 @@ fill-spec =
     Inv-loop
     μ-loop
     loop-holds
-    sub-read-some
-    part-read-some-start
-    part-read-some-end
-    read-some-requires
+    read-behind-requires
     enum-known-some
     enum-told
     same-length
