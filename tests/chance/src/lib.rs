@@ -29,4 +29,9 @@ impl Chance {
     pub fn happens(&mut self, chance: f64) -> bool {
         self.part() < chance
     }
+
+    /// One of these items; there has to be one.
+    pub fn pick<'a, T>(&mut self, items: &'a [T]) -> &'a T {
+        &items[self.below(items.len() as u64) as usize]
+    }
 }

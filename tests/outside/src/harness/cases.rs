@@ -1,0 +1,121 @@
+//! Document 01's own cases, by the letters that it gives them, and the other examples in its text. Each goes through
+//! the plain program too, so these are held to the document as well.
+
+use super::{Harness, Trial, CASES};
+use crate::feeds::bytes;
+use crate::plain::Prefix;
+use doors::records::{Fields, RECORD};
+use doors::Counted;
+use std::net::Ipv4Addr;
+
+/// What is fed in how many slots, what the update answers (number and count), and the table that is then written; where
+/// there is none, writing answers 10.
+struct Case(&'static str, usize, &'static str, (u32, u64), Option<&'static str>);
+
+const C: &str = "* 1, 00* 2, 10* 2, 11* 3";
+
+const TABLE_OF_C: [u8; 24] = [0, 0, 0, 0, 0, 1, 0, 2, 0x40, 0, 0, 0, 2, 1, 0, 1, 0xC0, 0, 0, 0, 2, 1, 0, 3];
+
+const ENOUGH: usize = 100;
+
+const TABLE: &[Case] = &[
+    Case("A", ENOUGH, "", (0, 0), None),
+    Case("B", ENOUGH, "* 1", (0, 1), Some("* 1")),
+    Case("C", 6, C, (0, 4), Some("* 2, 01* 1, 11* 3")),
+    Case("D", ENOUGH, "* 1, 1* 2", (0, 2), Some("* 1, 1* 2")),
+    Case("E", ENOUGH, "* 2, 1* 1", (0, 2), Some("* 1, 0* 2")),
+    Case("F", ENOUGH, "* 1, 0* 2, 1* 2", (0, 3), Some("* 2")),
+    Case("G", ENOUGH, "* 1, 0* 2, 1* 2, withdraw 0*", (0, 4), Some("* 1, 1* 2")),
+    Case("H", ENOUGH, "* 5, 10.0.0.0/8 5", (0, 2), Some("* 5")),
+    Case("I", ENOUGH, "* 1, 01* 2, 10* 3", (0, 3), Some("* 1, 01* 2, 10* 3")),
+    Case("J", 33, "* 1, 255.255.255.255/32 2", (0, 2), Some("* 1, 255.255.255.255/32 2")),
+    Case("J in 32 slots", 32, "* 1, 255.255.255.255/32 2", (9, 1), Some("* 1")),
+    Case("K", ENOUGH, "withdraw *", (8, 0), None),
+    Case("L, taken", ENOUGH, "* 64", (0, 1), Some("* 64")),
+    Case("L, refused", ENOUGH, "* 65", (7, 0), None),
+    Case("M, taken", ENOUGH, "0.0.0.0/32 1", (0, 1), None),
+    Case("M, refused", ENOUGH, "0.0.0.0/33 1", (4, 0), None),
+    Case("C in 5 slots", 5, C, (9, 3), Some("* 1, 00* 2, 10* 2")),
+    Case("10.0.0.0/8 alone needs 9", 9, "10.0.0.0/8 1", (0, 1), None),
+    Case("10.0.0.0/8 alone does not fit 8", 8, "10.0.0.0/8 1", (9, 0), None),
+    Case("a lone /32 needs 33", 33, "10.0.0.1/32 1", (0, 1), None),
+    Case("a lone /32 does not fit 32", 32, "10.0.0.1/32 1", (9, 0), None),
+];
+
+pub fn all(harness: &mut Harness) {
+    TABLE.iter().for_each(|case| run(case, harness));
+    list_lengths(harness);
+    output_lengths(harness);
+    longest_match(harness);
+}
+
+fn run(&Case(name, slots, feed, (number, count), written): &Case, harness: &mut Harness) {
+    let mut trial = Trial::from_zeros(harness, format!("case {name}"), slots);
+    let table = written.map(list).unwrap_or_default();
+    let records = (table.len() / RECORD) as u64;
+    let written = Counted { number: if written.is_some() { 0 } else { 10 }, count: records };
+    let updated = trial.update(&list(feed));
+    let came = trial.write(&vec![0; slots], &vec![0; table.len()]);
+    says(harness, name, &(Counted { number, count }, (written, table)), &(updated, came));
+}
+
+fn says<T: PartialEq + std::fmt::Debug>(harness: &mut Harness, name: &str, expected: &T, came: &T) {
+    harness.verdict.equal(CASES, expected, came, || format!("case {name}"));
+}
+
+/// N: 7 bytes, and 0 bytes.
+fn list_lengths(harness: &mut Harness) {
+    let mut trial = Trial::from_zeros(harness, "case N".to_string(), ENOUGH);
+    let came = [trial.update(&[0; 7]), trial.update(&[])];
+    says(harness, "N", &[Counted { number: 3, count: 0 }, Counted { number: 0, count: 0 }], &came);
+}
+
+/// O: for C, an output of 23 bytes and one of 24. C's table stands whole in the document.
+fn output_lengths(harness: &mut Harness) {
+    let slots = 6;
+    let mut trial = Trial::from_zeros(harness, "case O".to_string(), slots);
+    trial.update(&list(C));
+    let came = [23, 24].map(|room| trial.write(&vec![0; slots], &vec![0; room]));
+    let refused = (Counted { number: 11, count: 3 }, vec![0; 23]);
+    says(harness, "O", &[refused, (Counted { number: 0, count: 3 }, TABLE_OF_C.to_vec())], &came);
+}
+
+/// A's lookups, and the example of source document 001: with 01* to hop 1 and 0100* to hop 2, 01000 goes to 2.
+fn longest_match(harness: &mut Harness) {
+    let bits = |string: &str| record(string).address;
+    let mut trial = Trial::from_zeros(harness, "longest match".to_string(), ENOUGH);
+    let mut found = trial.lookups(&[0, bits("01000*"), u32::MAX]);
+    trial.update(&list("01* 1, 0100* 2"));
+    found.extend(trial.lookups(&[bits("01000*"), bits("0101*"), bits("1*")]));
+    says(harness, "longest match", &vec![0, 0, 0, 2, 1, 0], &found.iter().map(|found| found.hop).collect());
+}
+
+fn list(text: &str) -> Vec<u8> {
+    bytes(&text.split(", ").filter(|entry| !entry.is_empty()).map(record).collect::<Vec<_>>())
+}
+
+/// `00* 2` or `10.0.0.0/8 5`; `withdraw` before it, and then no hop.
+fn record(text: &str) -> Fields {
+    let (withdrawn, text) = text.strip_prefix("withdraw ").map_or((false, text), |text| (true, text));
+    let (string, hop) = text.split_once(' ').unwrap_or((text, "0"));
+    let (address, length) = match string.strip_suffix('*') {
+        Some(bits) => from_bits(bits),
+        None => from_dots(string),
+    };
+    if withdrawn {
+        Fields::withdrawal(address, length)
+    } else {
+        Fields::announcement(address, length, hop.parse().expect("a hop"))
+    }
+}
+
+fn from_bits(bits: &str) -> (u32, u8) {
+    let add = |string: Prefix, bit| string.child(bit == '1').expect("few bits");
+    let string = bits.chars().fold(Prefix::EMPTY, add);
+    (string.address, string.length)
+}
+
+fn from_dots(prefix: &str) -> (u32, u8) {
+    let (address, length) = prefix.split_once('/').expect("a length");
+    (address.parse::<Ipv4Addr>().expect("an address").to_bits(), length.parse().expect("a length"))
+}

@@ -1,0 +1,59 @@
+//! The smallest table, as document 01 defines it. The definition speaks of all strings of at most 32 bits; a string
+//! with no held route below it has one hop throughout, so nothing below it is visited.
+
+use super::{Ledger, Prefix};
+use doors::records::Fields;
+
+/// A set of hops: bit h stands for hop h.
+type Hops = u128;
+
+fn only(hop: u16) -> Hops {
+    1 << hop
+}
+
+fn least(set: Hops) -> u16 {
+    set.trailing_zeros() as u16
+}
+
+/// A string with its set and, where they may differ from it, its two children.
+struct Node {
+    string: Prefix,
+    set: Hops,
+    children: Vec<Node>,
+}
+
+/// The set of a string is its children's common part or, where that is empty, their union. `above` is the hop of the
+/// longest held prefix that is shorter than the string.
+fn node(ledger: &Ledger, string: Prefix, above: u16) -> Node {
+    let hop = ledger.held(string).unwrap_or(above);
+    if !ledger.holds_below(string) {
+        return Node { string, set: only(hop), children: Vec::new() };
+    }
+    let child = |bit| node(ledger, string.child(bit).expect("something is held below"), hop);
+    let (left, right) = (child(false), child(true));
+    let common = left.set & right.set;
+    let set = if common != 0 { common } else { left.set | right.set };
+    Node { string, set, children: vec![left, right] }
+}
+
+/// Going down: no entry if the hop in force above is in the set, otherwise one with the least member. None is in force
+/// above the empty string, so that is always given an entry.
+fn give_entries(node: &Node, in_force: Option<u16>, table: &mut Vec<Fields>) {
+    let hop = in_force.filter(|&hop| node.set & only(hop) != 0).unwrap_or_else(|| {
+        let hop = least(node.set);
+        table.push(node.string.announced(hop));
+        hop
+    });
+    for child in &node.children {
+        give_entries(child, Some(hop), table);
+    }
+}
+
+/// The smallest table's entries in the order of the written table; none where no prefix of length 0 is held.
+pub fn smallest(ledger: &Ledger) -> Option<Vec<Fields>> {
+    let default = ledger.held(Prefix::EMPTY)?;
+    let mut table = Vec::new();
+    give_entries(&node(ledger, Prefix::EMPTY, default), None, &mut table);
+    table.sort_by_key(|entry| (entry.address, entry.length));
+    Some(table)
+}
