@@ -91,9 +91,12 @@ module _ (n : ℕ) (list output : List ℕ) where
   leaves t (short e h l) x is = refl
   leaves t (writes-it e h l) x is = none-some is refl
 
+  pub refused-leaves : (x : ℕ) → tableOf n list output .refusal ≡ some x → tableOf n list output .output ≡ output
+  refused-leaves = leaves (tableOf n list output) way
+
   pub refusal-leaves : (output' : List ℕ) (x c : ℕ) → TablesIn n list output output' (Refused x c) → output' ≡ output
   refusal-leaves output' x c meets =
-      ap (λ t. t .output) (meets .outcome) ∙ leaves (tableOf n list output) way x (sym (ap (λ t. t .refusal) (meets .outcome)))
+      ap (λ t. t .output) (meets .outcome) ∙ refused-leaves x (sym (ap (λ t. t .refusal) (meets .outcome)))
 
   -- THE NUMBERS are 3 to 11
   numbers : (t : Tabled) → Way t → Between badListLength shortOutput (t .refusal)
