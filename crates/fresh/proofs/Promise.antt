@@ -10,7 +10,7 @@ use lib.Dec.{ltb}
 use lib.ListN.{length, drop, length-append, length-drop}
 use borrow.Author.Tests.{ltb-true, ltb-false}
 use Rattle.theory.specs.Ledger.{Entry, isHeld, nothing}
-use Rattle.theory.proofs.Hops.{by-test}
+use Rattle.theory.proofs.Hops.{by-test, never}
 use Rattle.theory.proofs.Longest.{none-some}
 use Rattle.rules.specs.Numbers.{ipv4, badListLength, noDefault, shortOutput}
 use Rattle.rules.specs.Records.{printTable}
@@ -83,6 +83,27 @@ module _ (n : ℕ) (list output : List ℕ) where
                   | inr fits ↦ rw (held, fits) (writes-it e held (ltb-false (length output) (bytesFor T) fits))
                 ]
           ]
+
+  -- THE TABLE, where nothing stands in its way; and only so
+  is-made : (t : Tabled) → Way t → A .refusal ≡ none → isHeld (A .ledger []) ≡ true → bytesFor T ≤ length output
+      → t ≡ record { refusal = none; count = length T; output = printTable ipv4 T ++ drop (bytesFor T) output }
+  is-made t (stops x e) quiet held room = none-some e quiet
+  is-made t (no-default e none-held) quiet held room = never held none-held
+  is-made t (short e h l) quiet held room = absurd (omega (arith, l, room))
+  is-made t (writes-it e h l) quiet held room = refl
+
+  pub made : A .refusal ≡ none → isHeld (A .ledger []) ≡ true → bytesFor T ≤ length output
+      → tableOf n list output ≡ record { refusal = none; count = length T; output = printTable ipv4 T ++ drop (bytesFor T) output }
+  made = is-made (tableOf n list output) way
+
+  only-made : (t : Tabled) → Way t → t .refusal ≡ none → (A .refusal ≡ none) × (isHeld (A .ledger []) ≡ true) × (bytesFor T ≤ length output)
+  only-made t (stops x e) quiet = none-some refl quiet
+  only-made t (no-default e h) quiet = none-some refl quiet
+  only-made t (short e h l) quiet = none-some refl quiet
+  only-made t (writes-it e h l) quiet = (e, h, l)
+
+  pub made-only-so : tableOf n list output .refusal ≡ none → (A .refusal ≡ none) × (isHeld (A .ledger []) ≡ true) × (bytesFor T ≤ length output)
+  made-only-so = only-made (tableOf n list output) way
 
   -- A REFUSAL LEAVES THE OUTPUT AS IT WAS, every byte
   leaves : (t : Tabled) → Way t → (x : ℕ) → t .refusal ≡ some x → t .output ≡ output

@@ -4,3 +4,4 @@ pub mod History
 pub mod Room
 pub mod Union
 pub mod Wrong
+pub mod Doors

@@ -1,6 +1,7 @@
 -- What the table call answers is what the program has to write: its table stands there, and each refusal is told by its record. An output
 -- as long as the input is always enough, so 11 never comes.
 use mathlib.Core.Path.{_≡_, refl, sym, ap, subst, _∙_}
+use mathlib.Core.Bool.{true}
 use mathlib.Core.List.{List, [], _++_}
 use mathlib.Core.Option.{none, some}
 use Prim.Native.Nat.{ℕ, _*_, _≤_, _<_}
@@ -26,13 +27,21 @@ pub too-long : (input : List ℕ) → mostInput < length input → writesFor inp
 unfolding writesFor
 too-long input long = rw (lt-ltb mostInput (length input) long)
 
-module _ (input output : List ℕ) (not-long : length input ≤ mostInput) (room : mostInput ≤ length output) where
+module _ (input : List ℕ) (not-long : length input ≤ mostInput) where
   abbrev A : Applied
   A = updated ipv4 ownSlots nothing input
 
   as-list : writesFor input ≡ afterList (A .refusal) A
   unfolding writesFor
   as-list = rw (le-ltb mostInput (length input) not-long)
+
+  -- nothing refused, and a default route held: the smallest table's bytes
+  pub writes-table : A .refusal ≡ none → isHeld (A .ledger []) ≡ true → writesFor input ≡ printTable ipv4 (smallestTable ipv4 (A .ledger))
+  writes-table quiet held = as-list ∙ ap (λ f. afterList f A) quiet ∙ rw held
+
+module _ (input output : List ℕ) (not-long : length input ≤ mostInput) (room : mostInput ≤ length output) where
+  abbrev plain : Applied
+  plain = updated ipv4 ownSlots nothing input
 
   -- THE TABLE
   table-way : (t : Tabled) → Way ownSlots input output t → t .refusal ≡ none
@@ -41,10 +50,9 @@ module _ (input output : List ℕ) (not-long : length input ≤ mostInput) (room
   table-way t (no-default e h) quiet = none-some refl quiet
   table-way t (short e h l) quiet = none-some refl quiet
   table-way t (writes-it e h l) quiet =
-      let T = smallestTable ipv4 (A .ledger) in
-      let is : writesFor input ≡ printTable ipv4 T = as-list ∙ ap (λ f. afterList f A) e ∙ rw h in (
+      let T = smallestTable ipv4 (plain .ledger) in (
         table-fits ipv4 ownSlots input (omega arith) h,
-        subst (λ b. Stands b output (t .output) (t .count * recordBytes ipv4)) (sym is)
+        subst (λ b. Stands b output (t .output) (t .count * recordBytes ipv4)) (sym (writes-table input not-long e h))
             record { count = sym (table-length ipv4 T); left = ap (λ k. printTable ipv4 T ++ drop k output) (sym (table-length ipv4 T)) },
       )
 
@@ -70,7 +78,7 @@ module _ (input output : List ℕ) (not-long : length input ≤ mostInput) (room
         record {
           a-byte = omega (arith, in-range .1, same);
           whole-call = λ d. absurd (omega (arith, in-range .1, same, d));
-          at-place = λ d. as-list ∙ ap (λ f. afterList f A) (e ∙ is);
+          at-place = λ d. as-list input not-long ∙ ap (λ f. afterList f plain) (e ∙ is);
           near = λ d. omega (arith, few-applied ipv4 ownSlots input nothing, not-long);
         },
       )
@@ -79,7 +87,7 @@ module _ (input output : List ℕ) (not-long : length input ≤ mostInput) (room
         refl,
         record {
           a-byte = omega (arith, same);
-          whole-call = λ d. as-list ∙ ap (λ f. afterList f A) e ∙ rw (h, same);
+          whole-call = λ d. as-list input not-long ∙ ap (λ f. afterList f plain) e ∙ rw (h, same);
           at-place = λ d. absurd (d (sym same));
           near = λ d. absurd (d (sym same));
         },
