@@ -41,10 +41,10 @@ one-record n c proper = rw (whole-print ipv4 (c ∷ []), readings-print ipv4 (c 
 
 module _ (n : ℕ) (some-slot : 0 < n) (few : n ≤ mostSlots) where
   -- the default route to hop 1, announced to zeroed memory of any size: taken
-  abbrev default : List ℕ
+  abbrev pub default : List ℕ
   default = printAll ipv4 (announces [] 1 ∷ [])
 
-  default-taken : updateOf (zeroed n) default ≡ record { refusal = none; count = 1; ledger = announce nothing [] 1 }
+  pub default-taken : updateOf (zeroed n) default ≡ record { refusal = none; count = 1; ledger = announce nothing [] 1 }
   default-taken =
       from-zeros n some-slot few default ∙ one-record n (announces [] 1) (omega arith, (omega arith, omega arith))
       ∙ rw (le-leb (needs {A = ℕ} (width ipv4) (announce nothing [] 1)) n (omega (arith, needs-alone ℕ (width ipv4) [] 1 (omega arith))))

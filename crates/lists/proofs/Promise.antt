@@ -30,7 +30,7 @@ pub one-found : {list : List ℕ} {address : ℕ} {r s : Found} → LooksUpList 
 one-found {r} {s} p q = same-answer r s (one-answer p q)
 
 -- every address of the empty list has no route
-empty-list : (address : ℕ) → lookedUp ipv4 [] address .hop ≡ 0
+pub empty-list : (address : ℕ) → lookedUp ipv4 [] address .hop ≡ 0
 unfolding lookedUp scanned hopOf
 empty-list address = refl
 

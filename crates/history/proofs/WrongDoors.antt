@@ -1,0 +1,117 @@
+-- The wrong answers that document 01 names break the doors' promises too, each at one of its cases, whatever else they answer and leave.
+use mathlib.Core.Path.{_≡_, refl, sym, ap, _∙_}
+use mathlib.Core.List.{List, [], _∷_, _++_}
+use mathlib.Core.Option.{none, some}
+use Prim.Native.Nat.{ℕ, _*_, _≤_, _<_}
+use native.Mathlib.Omega.{arith}
+use lib.ListN.{length, drop, getD}
+use Rattle.theory.specs.Ledger.{Entry, nothing}
+use Rattle.theory.proofs.Longest.{none-some}
+use Rattle.rules.specs.Numbers.{ipv4, recordBytes, mostSlots, ownSlots, mostInput}
+use Rattle.rules.specs.Records.{printAll, printTable}
+use Rattle.rules.specs.Plain.{updated}
+use Rattle.rules.specs.Lookup.{lookedUp}
+use Rattle.rules.specs.Writing.{writes, written}
+use Rattle.rules.proofs.Records.{printAll-length}
+use Rattle.memory.specs.Layout.{Memory, zeros, zeroed}
+use Rattle.lists.specs.Promise.{answerOf}
+use Rattle.lists.proofs.Promise as lists
+use Rattle.ledger.proofs.Wrong as ledger
+use Rattle.writing.specs.Promise.{bytesFor}
+use Rattle.fresh.specs.Promise.{thenWritten, afterUpdate, tableOf}
+use Rattle.cases.specs.Cases.{Case, after, resultOf, Holds, caseC, tableC, copyOfC}
+use Rattle.cases.proofs.Cases.{cases-hold}
+use Rattle.answers.specs.declared.FoundAnswer.{FoundAnswer}
+use Rattle.answers.specs.declared.CountAnswer.{CountAnswer}
+use Rattle.answers.specs.Answers.{countFor}
+use Rattle.arvandish.specs.Promise.{LooksUpForC, TablesForC}
+use Rattle.arvandish_ledger.specs.Promise.{UpdatesToC, LooksUpToC, WritesToC}
+use Rattle.program.specs.Promise.{afterList, writesFor, Answers}
+use Rattle.history.proofs.Room.{more-room}
+use Rattle.history.proofs.Wrong as wrong
+
+-- A CASE AT THE DOORS: its list makes in their own slots what it makes in the case's
+at-doors : (c : Case) → Holds c → c .result .refusal ≡ none → c .slots ≤ ownSlots
+    → updated ipv4 ownSlots nothing (printAll ipv4 (c .records)) ≡ after c
+at-doors c holds quiet few = more-room (c .slots) ownSlots few nothing (printAll ipv4 (c .records)) (ap (λ a. a .refusal) (holds .answers) ∙ quiet)
+
+abbrev listC : List ℕ
+listC = printAll ipv4 (caseC .records)
+
+C-holds : Holds caseC
+C-holds = cases-hold .1 .1 .0
+
+-- C's table, and what is left where there is room for it
+C-tabled : (output : List ℕ) → bytesFor tableC ≤ length output
+    → tableOf ownSlots listC output ≡ record { refusal = none; count = 3; output = printTable ipv4 tableC ++ drop (bytesFor tableC) output }
+unfolding tableOf
+C-tabled output room =
+    ap (λ a. afterUpdate (a .refusal) a output) (at-doors caseC C-holds refl (omega arith))
+    ∙ ap (λ f. afterUpdate f (after caseC) output) (ap (λ a. a .refusal) (C-holds .answers))
+    ∙ ap (λ w. thenWritten w (after caseC .count) output) (ap (λ a. a .output) (C-holds .answers))
+    ∙ rw (le-ltb (length output) (bytesFor tableC) room)
+
+-- byte 7 is the hop of the first record, the default route's
+abbrev firstHop : List ℕ → ℕ
+firstHop output = getD output 7 0
+
+-- THE DAEMON'S TABLE CALL
+module _ (output output' : List ℕ) (r : CountAnswer) (room : bytesFor tableC ≤ length output) (meets : TablesForC listC output output' r) where
+  answer-C : r ≡ record { number = 0; count = 3 }
+  answer-C = meets .answer ∙ ap (λ t. countFor (t .refusal) (t .count)) (C-tabled output room)
+
+  -- one that refuses everything
+  pub table-refuses-everything-breaks : (r .number ≡ 0 → ⊥) → ⊥
+  table-refuses-everything-breaks refuses = refuses (ap (λ a. a .number) answer-C)
+
+  -- one that answers the count of the list's records, as a loader did that counted what it was sent
+  pub table-counts-the-list-breaks : r .count * recordBytes ipv4 ≡ length listC → ⊥
+  table-counts-the-list-breaks counts = omega (arith, counts, ap (λ a. a .count) answer-C, printAll-length ipv4 (caseC .records))
+
+  hop-C : firstHop output' ≡ 2
+  hop-C = ap firstHop (meets .left ∙ ap (λ t. t .output) (C-tabled output room))
+
+pub table-leaves-the-output-breaks : (r : CountAnswer) → TablesForC listC (zeros (bytesFor tableC)) (zeros (bytesFor tableC)) r → ⊥
+table-leaves-the-output-breaks r meets =
+    let same : _≡_ {A = ℕ} 0 2 = hop-C (zeros (bytesFor tableC)) (zeros (bytesFor tableC)) r (omega arith) meets in
+    omega arith
+
+pub table-copies-the-ledger-breaks : (output rest : List ℕ) (r : CountAnswer) → bytesFor tableC ≤ length output
+    → TablesForC listC output (printTable ipv4 copyOfC ++ rest) r → ⊥
+table-copies-the-ledger-breaks output rest r room meets =
+    let same : _≡_ {A = ℕ} 1 2 = hop-C output (printTable ipv4 copyOfC ++ rest) r room meets in
+    omega arith
+
+-- LOOKUP IN A LIST: one that always answers 1
+pub lookup-always-one-breaks : (address : ℕ) (r : FoundAnswer) → LooksUpForC [] address r → r .hop ≡ 1 → ⊥
+lookup-always-one-breaks address r meets one = omega (arith, one, ap (λ a. a .hop) (meets .answer), lists.empty-list address)
+
+-- THE PROGRAM: one that writes nothing, and one that writes its input out
+C-written : writesFor listC ≡ printTable ipv4 tableC
+unfolding writesFor
+C-written =
+    rw (le-ltb mostInput (length listC) (omega (arith, printAll-length ipv4 (caseC .records))))
+    (ap (λ a. afterList (a .refusal) a) (at-doors caseC C-holds refl (omega arith))
+    ∙ ap (λ f. afterList f (after caseC)) (ap (λ a. a .refusal) (C-holds .answers))
+    ∙ ap thenTable (ap (λ a. a .output) (C-holds .answers)))
+
+pub program-writes-nothing-breaks : (output output' : List ℕ) → mostInput ≤ length output → Answers listC output output' 0 → ⊥
+program-writes-nothing-breaks output output' room answers =
+    let none-written : 0 ≡ length (printTable ipv4 tableC) = answers .stands room .count ∙ ap length C-written in
+    let wrong : _≡_ {A = ℕ} 0 24 = none-written in
+    omega arith
+
+pub program-copies-its-input-breaks : (output output' : List ℕ) → mostInput ≤ length output → Answers listC output output' (length listC) → ⊥
+program-copies-its-input-breaks output output' room answers =
+    let as-many : length listC ≡ length (printTable ipv4 tableC) = answers .stands room .count ∙ ap length C-written in
+    let wrong : _≡_ {A = ℕ} 32 24 = sym (printAll-length ipv4 (caseC .records)) ∙ as-many in
+    omega arith
+
+-- THE LEDGER DOOR: the wrong answers of the calls inside are wrong there
+module _ (n : ℕ) (some-slot : 0 < n) (few : n ≤ mostSlots) where
+  pub ledger-refuses-everything-breaks : (m : Memory) (r : CountAnswer) → UpdatesToC (zeroed n) (ledger.default n some-slot few) m r
+      → (r .number ≡ 0 → ⊥) → ⊥
+  ledger-refuses-everything-breaks m r meets refuses = ?
+
+  pub ledger-applies-none-breaks : (r : CountAnswer) → UpdatesToC (zeroed n) (ledger.default n some-slot few) (zeroed n) r → ⊥
+  ledger-applies-none-breaks r meets = ledger.applies-none-breaks n some-slot few (meets .answer) (meets .meets)
