@@ -12,20 +12,21 @@ use Rattle.theory.specs.Ledger.{isHeld, announce}
 use Rattle.theory.proofs.Hops.{never}
 use Rattle.theory.proofs.Walk.{front-length}
 use Rattle.rules.specs.Plain.{needs}
-use Rattle.memory.specs.Layout.{Memory, slots, find, readHop, hopAt, ledgerOf}
+use Rattle.memory.specs.Path.{pathBits}
+use Rattle.memory.specs.Layout.{Memory, slots, Shaped, find, readHop, hopAt, ledgerOf}
 use Rattle.memory.proofs.Ledger.{hop-low, hop-stored, ledger-front, no-hop}
 use Rattle.editing.specs.Edits.{rehop}
-use Rattle.editing.specs.Routes.{CanWithdraw, CanAnnounce, OnPath, Reworked, Extended, Stuck, Step, Announced, Withdrawn}
+use Rattle.editing.specs.Routes.{CanWithdraw, CanAnnounce, OnPath, Reaches, AtEnd, Reworked, Extended, Stuck, Step, Announced, Withdrawn}
 use Rattle.editing.proofs.Setting.{rehop-kept, rehop-announce, rehop-withdraw, rehop-tidy, rehop-done, tidy-but}
 use Rattle.editing.proofs.Exhausting.{needs-more, front-more}
-use Rattle.editing.proofs.Walking.{kept-self, kept-then, reworked-self, reworked-then}
+use Rattle.editing.proofs.Walking.{kept-self, kept-then, reworked-then}
 
 true-false : {A : Type 0} → true ≡ false → A
 true-false e = never refl e
 
 -- what a step's answer says
 module _ (w : ℕ) (m m' : Memory) (f : ℕ → Bool) (d slot next : ℕ) where
-  pub step-refused : Step w m m' f d slot next → slots (m' .tree) ≤ next → Stuck w m m' f d slot next
+  pub step-refused : Step w m m' f d slot next → slots (m' .tree) ≤ next → Stuck w m m' slot next
   step-refused (inl e) l = absurd (omega (arith, e .below, e .reworked .kept .same-slots))
   step-refused (inr s) l = s
 
@@ -33,43 +34,51 @@ module _ (w : ℕ) (m m' : Memory) (f : ℕ → Bool) (d slot next : ℕ) where
   step-taken (inl e) l = e
   step-taken (inr s) l = absurd (omega (arith, s .exhausted .none, ap (λ x. slots (x .tree)) (s .unchanged)))
 
-module _ (w : ℕ) (a m : Memory) (f : ℕ → Bool) (size h : ℕ) (can : CanAnnounce w a size h) where
-  pub start : (Reworked w a a 0 0) × (OnPath w a f 0 0) × (0 ≤ size)
-  start = (
-    reworked-self w a 0 (can .route .whole),
-    record {
-      route = record { whole = can .route .whole; short = omega arith; fits = can .route .fits };
-      there = refl;
-      below = can .route .whole .shaped .some-slot;
-    },
-    omega arith,
-  )
+module _ (w : ℕ) (a : Memory) (size h : ℕ) (can : CanAnnounce w a size h) where
+  pub can-walk : Shaped (a .tree) × (size ≤ pathBits)
+  can-walk = (can .route .whole .shaped, omega (arith, can .route .short, can .route .fits))
 
-  module _ (d slot : ℕ) (so-far : Reworked w a m 0 slot) (on : OnPath w m f d slot) where
+  -- nothing has changed yet, and what is tidy is so but for any slot
+  pub start : (slot : ℕ) → Reworked w a a 0 slot
+  start slot = record { kept = kept-self a (can .route .whole); same-ledger = refl; tidied = tidy-but w a slot }
+
+  -- on the way, at the last slot that the path has
+  module _ (m : Memory) (f : ℕ → Bool) (d slot : ℕ) (so-far : Reworked w a m 0 slot) (met : Reaches (m .tree) f size d slot) where
+    on : OnPath w m f d slot
+    on = record {
+      route = record { whole = so-far .kept .whole; short = omega (arith, met .short, can .route .short); fits = can .route .fits };
+      there = met .there;
+      below = met .below;
+    }
+
+    pub at-end : d < size → AtEnd w m f d slot
+    at-end l = record { on = on; deeper = omega (arith, can .route .short); no-child = met .ends l }
+
+    -- a slot that was just hung leads nowhere
     pub go-on : (m' : Memory) (next : ℕ) → Extended w m m' f d slot next → d < size
-        → (Reworked w a m' 0 next) × (OnPath w m' f (d + 1) next) × (d + 1 ≤ size)
+        → (Reworked w a m' 0 next) × (Reaches (m' .tree) f size (d + 1) next)
     go-on m' next e l = (
       reworked-then w a m m' 0 slot next so-far (e .reworked),
       record {
-        route = record { whole = e .reworked .kept .whole; short = omega (arith, can .route .short); fits = can .route .fits };
+        short = omega arith;
         there = e .there;
         below = omega (arith, e .below, e .reworked .kept .same-slots);
+        ends = λ more. e .leaf (f (d + 1)) ∙ sym (e .reworked .kept .same-slots);
       },
-      omega arith,
     )
 
     -- nothing has changed where no slot is left, so the walk up starts from where the walk down stood
-    pub still-on : (m' : Memory) (next : ℕ) → Stuck w m m' f d slot next → OnPath w m' f d slot
+    pub still-on : (m' : Memory) (next : ℕ) → Stuck w m m' slot next → OnPath w m' f d slot
     still-on m' next s = subst (λ x. OnPath w x f d slot) (sym (s .unchanged)) on
 
-    more-needed : d < size → (m' : Memory) (next : ℕ) → Stuck w m m' f d slot next → slots (m .tree) < needs w (announce (ledgerOf w m) (prefixOf f size) h)
+    more-needed : d < size → (m' : Memory) (next : ℕ) → Stuck w m m' slot next → slots (m .tree) < needs w (announce (ledgerOf w m) (prefixOf f size) h)
     more-needed l m' next s =
         let more = front-more f d size l in
         subst (λ x. slots (m .tree) < needs w (announce (ledgerOf w m) (reverse x) h)) (sym (more .1))
         (needs-more w m (on .route .whole) (front f d) (f d) (more .0) h slot (sym (on .there)) (on .below)
-        (omega (arith, ap length (more .1), front-length f size, can .route .short)) (s .no-child) (s .exhausted .all-used))
+        (omega (arith, ap length (more .1), front-length f size, can .route .short)) (met .ends l) (s .exhausted .all-used))
 
-    pub announce-refused : d < size → (m' m'' : Memory) (next : ℕ) → Stuck w m m' f d slot next → Reworked w m' m'' slot 0
+    pub announce-refused : d < size → (m' m'' : Memory) (next : ℕ) → Stuck w m m' slot next → Reworked w m' m'' slot 0
         → Announced w a m'' (prefixOf f size) h false
     announce-refused l m' m'' next s back =
         let down : Reworked w a m' 0 slot = subst (λ x. Reworked w a x 0 slot) (sym (s .unchanged)) so-far in

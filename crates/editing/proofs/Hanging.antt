@@ -93,7 +93,7 @@ module _ (w : ℕ) (m m' : Memory) (p : ℕ) (b : Bool) (k : ℕ) (s0 : Bits) (w
   new-child : child (m' .tree) b p ≡ k
   new-child = child-counts (m' .tree) b p k new-counts
 
-  no-new-child : (c : Bool) → child (m' .tree) c k ≡ slots (m .tree)
+  pub no-new-child : (c : Bool) → child (m' .tree) c k ≡ slots (m .tree)
   no-new-child c = none-of (m' .tree) c k (λ y n. omega (arith, n .positive, n .linked, hung .no-links c)) ∙ same-slots
 
   -- elsewhere nothing counts for the new slot

@@ -10,17 +10,15 @@ use native.Mathlib.Numerals.{add-one, sub-one}
 use lib.ListN.{length, getD}
 use Rattle.theory.specs.Bits.{front}
 use Rattle.theory.proofs.Walk.{front-length}
-use Rattle.memory.specs.Layout.{Memory, slots, Whole, child, find}
+use Rattle.memory.specs.Layout.{Tree, Memory, slots, Whole, child, find}
 use Rattle.memory.specs.Tidy.{bare}
-use Rattle.memory.proofs.Find.{Counts, mark-positive, child-le, counts-of, parent-below, one-string, step-front}
-use Rattle.memory.proofs.Bare.{busy-child}
+use Rattle.memory.proofs.Find.{Counts, mark-positive, child-le, counts-of, parent-below, one-string}
 use Rattle.editing.specs.Spare.{Spared, SpareFor}
-use Rattle.editing.specs.Edits.{Kept, Hung, Dropped}
-use Rattle.editing.specs.Routes.{OnPath, Reworked, Extended, Stuck}
+use Rattle.editing.specs.Edits.{CanEdit, Kept, Hung, Dropped}
+use Rattle.editing.specs.Routes.{OnPath, Reaches, AtEnd, Reworked, Extended, Stuck}
 use Rattle.editing.proofs.Rising.{parent-mark}
-use Rattle.editing.proofs.Hanging.{hung-ledger, hung-there, hung-tidy}
+use Rattle.editing.proofs.Hanging.{no-new-child, hung-ledger, hung-there, hung-tidy}
 use Rattle.editing.proofs.Dropping.{dropped-ledger, parent-kept, dropped-tidy, tip-done}
-use Rattle.editing.proofs.Setting.{tidy-but}
 
 pub kept-self : (m : Memory) → Whole m → Kept m m
 kept-self m whole = record { same-slots = refl; whole = whole; ledger = λ e. e }
@@ -42,62 +40,73 @@ reworked-then w a b c x y z p q = record {
   tidied = λ t. q .tidied (p .tidied t);
 }
 
--- ONE BIT DOWN
-module _ (w : ℕ) (m : Memory) (f : ℕ → Bool) (d slot : ℕ) (on : OnPath w m f d slot) (deeper : d < w)
-    (right : Bool) (next : ℕ) (turn : right ≡ f d) (its-child : next ≡ child (m .tree) right slot) where
-  abbrev whole : Whole m
-  whole = on .route .whole
-
-  short : length (front f d) < w
-  short = omega (arith, front-length f d)
-
-  pub step-there : next < slots (m .tree) → Extended w m m f d slot next
-  step-there l = record {
-    reworked = record {
-      kept = kept-self m whole;
-      same-ledger = refl;
-      tidied = λ tidy.
-          tidy-but w m next
-          (tip-done w m slot (front f d) (sym (on .there)) (omega (arith, short))
-          (busy-child m (w - length (front f d)) slot right (omega (arith, short)) (omega (arith, its-child))) tidy);
-    };
-    there = step-front (m .tree) f d (on .there) turn its-child;
-    below = l;
+-- HOW FAR A PATH HAS SLOTS: to where a bit leads nowhere, or through all of it
+module _ (t : Tree) (f : ℕ → Bool) (size d slot : ℕ) (short : d ≤ size) (below : slot < slots t) (there : slot ≡ find t (front f d)) where
+  pub stops-short : (right : Bool) (next : ℕ) → right ≡ f d → next ≡ child t right slot → slots t ≤ next → Reaches t f size d slot
+  stops-short right next turn its-child none = record {
+    short = short;
+    there = there;
+    below = below;
+    ends = λ l. ap (λ b. child t b slot) (sym turn) ∙ omega (arith, its-child, child-le t right slot);
   }
 
-  module _ (none : slots (m .tree) ≤ next) where
-    no-child : child (m .tree) right slot ≡ slots (m .tree)
-    no-child = omega (arith, its-child, child-le (m .tree) right slot)
+  pub goes-through : size ≤ d → Reaches t f size d slot
+  goes-through all = record { short = short; there = there; below = below; ends = λ l. absurd (omega arith) }
 
-    pub step-stuck : (free : ℕ) → SpareFor w m slot free → slots (m .tree) ≤ free → Stuck w m m f d slot free
-    step-stuck free (inl spared) l = absurd (omega (arith, spared .slot))
-    step-stuck free (inr exhausted) l = record {
-      unchanged = refl;
-      no-child = ap (λ b. child (m .tree) b slot) (sym turn) ∙ no-child;
-      exhausted = exhausted;
+-- ONE BIT DOWN, from the last slot on a path
+module _ (w : ℕ) (m : Memory) (f : ℕ → Bool) (d slot : ℕ) (end : AtEnd w m f d slot) (free : ℕ) (its-spare : SpareFor w m slot free) where
+  abbrev whole : Whole m
+  whole = end .on .route .whole
+
+  pub step-stuck : slots (m .tree) ≤ free → Stuck w m m slot free
+  step-stuck l = elim its-spare [
+    | inl spared ↦ absurd (omega (arith, spared .slot))
+    | inr exhausted ↦ record { unchanged = refl; exhausted = exhausted }
+  ]
+
+  module _ (slot-free : free < slots (m .tree)) where
+    spared : Spared w m slot free
+    spared = elim its-spare [ inl taken ↦ taken | inr exhausted ↦ absurd (omega (arith, exhausted .none)) ]
+
+    pub can-hang : CanEdit m slot free
+    can-hang = record {
+      whole = whole;
+      parent-below = end .on .below;
+      positive = spared .positive;
+      below = slot-free;
+      other = spared .other;
     }
 
-    pub step-free : (free : ℕ) → SpareFor w m slot free → free < slots (m .tree) → Spared w m slot free
-    step-free free (inl spared) l = spared
-    step-free free (inr exhausted) l = absurd (omega (arith, exhausted .none))
+    module _ (m' : Memory) (right : Bool) (turn : right ≡ f d) (hung : Hung m m' slot right free) where
+      there : find (m .tree) (front f d) ≡ slot
+      there = sym (end .on .there)
 
-    pub step-hung : (m' : Memory) (free : ℕ) → Spared w m slot free → Hung m m' slot right free → Extended w m m' f d slot free
-    step-hung m' free spared hung = record {
-      reworked = record {
-        kept = hung .kept;
-        same-ledger =
-            hung-ledger w m m' slot right free (front f d) whole hung (sym (on .there)) (on .below) short no-child
-            (spared .positive) (spared .slot) (spared .other) (spared .unused) (spared .hinted);
-        tidied =
-            hung-tidy w m m' slot right free (front f d) whole hung (sym (on .there)) (on .below) short no-child
-            (spared .positive) (spared .slot) (spared .other) (spared .unused) (spared .hinted);
-      };
-      there = rw add-one
-          (sym (ap (λ b. find (m' .tree) (b ∷ front f d)) (sym turn)
-          ∙ hung-there w m m' slot right free (front f d) whole hung (sym (on .there)) (on .below) short no-child
-          (spared .positive) (spared .slot) (spared .other) (spared .unused) (spared .hinted)));
-      below = spared .slot;
-    }
+      short : length (front f d) < w
+      short = omega (arith, front-length f d, end .deeper)
+
+      no-child : child (m .tree) right slot ≡ slots (m .tree)
+      no-child = ap (λ b. child (m .tree) b slot) turn ∙ end .no-child
+
+      pub step-hung : Extended w m m' f d slot free
+      step-hung = record {
+        reworked = record {
+          kept = hung .kept;
+          same-ledger =
+              hung-ledger w m m' slot right free (front f d) whole hung there (end .on .below) short no-child
+              (spared .positive) slot-free (spared .other) (spared .unused) (spared .hinted);
+          tidied =
+              hung-tidy w m m' slot right free (front f d) whole hung there (end .on .below) short no-child
+              (spared .positive) slot-free (spared .other) (spared .unused) (spared .hinted);
+        };
+        there = rw add-one
+            (sym (ap (λ b. find (m' .tree) (b ∷ front f d)) (sym turn)
+            ∙ hung-there w m m' slot right free (front f d) whole hung there (end .on .below) short no-child
+            (spared .positive) slot-free (spared .other) (spared .unused) (spared .hinted)));
+        below = slot-free;
+        leaf =
+            no-new-child w m m' slot right free (front f d) whole hung there (end .on .below) short no-child
+            (spared .positive) slot-free (spared .other) (spared .unused) (spared .hinted);
+      }
 
 -- ONE BIT UP: what the mark of a slot on a path says
 pub record Above (m : Memory) (f : ℕ → Bool) (e slot parent : ℕ) : Type 0 where

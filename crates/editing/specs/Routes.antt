@@ -8,7 +8,7 @@ use Rattle.theory.specs.Ledger.{isHeld, announce, withdraw}
 use Rattle.rules.specs.Plain.{needs}
 use Rattle.rules.specs.Numbers.{MayAnnounce}
 use Rattle.memory.specs.Path.{pathBits}
-use Rattle.memory.specs.Layout.{Memory, slots, Whole, child, find, ledgerOf}
+use Rattle.memory.specs.Layout.{Tree, Memory, slots, Whole, child, find, ledgerOf}
 use Rattle.memory.specs.Tidy.{TidyBut, Tidy}
 use Rattle.editing.specs.Spare.{Exhausted}
 use Rattle.editing.specs.Edits.{Kept}
@@ -29,26 +29,39 @@ pub record OnPath (w : ℕ) (m : Memory) (f : ℕ → Bool) (size slot : ℕ) : 
   pub there : slot ≡ find (m .tree) (front f size)
   pub below : slot < slots (m .tree)
 
+-- How far a path of so many bits has slots: its first d bits have one, and where that is not all of them, one bit more has none.
+pub record Reaches (t : Tree) (f : ℕ → Bool) (size d slot : ℕ) : Type 0 where
+  pub short : d ≤ size
+  pub there : slot ≡ find t (front f d)
+  pub below : slot < slots t
+  pub ends : d < size → child t (f d) slot ≡ slots t
+
+-- what a new slot is hung below: the last slot on a path, with bits left
+pub record AtEnd (w : ℕ) (m : Memory) (f : ℕ → Bool) (d slot : ℕ) : Type 0 where
+  pub on : OnPath w m f d slot
+  pub deeper : d < w
+  pub no-child : child (m .tree) (f d) slot ≡ slots (m .tree)
+
 -- The ledger is as it was, and memory that was tidy but for one slot is tidy but for another.
 pub record Reworked (w : ℕ) (m m' : Memory) (tip tip' : ℕ) : Type 0 where
   pub kept : Kept m m'
   pub same-ledger : ledgerOf w m' ≡ ledgerOf w m
   pub tidied : TidyBut w m tip → TidyBut w m' tip'
 
--- One bit further down a path from a slot: the string has a slot now, ..
+-- One bit further down a path from its last slot: the string has a slot now, and it is the last, ..
 pub record Extended (w : ℕ) (m m' : Memory) (f : ℕ → Bool) (d slot next : ℕ) : Type 0 where
   pub reworked : Reworked w m m' slot next
   pub there : next ≡ find (m' .tree) (front f (d + 1))
   pub below : next < slots (m .tree)
+  pub leaf : (b : Bool) → child (m' .tree) b next ≡ slots (m .tree)
 
 -- .. or there is none for it, and nothing has changed
-pub record Stuck (w : ℕ) (m m' : Memory) (f : ℕ → Bool) (d slot next : ℕ) : Type 0 where
+pub record Stuck (w : ℕ) (m m' : Memory) (slot next : ℕ) : Type 0 where
   pub unchanged : m' ≡ m
-  pub no-child : child (m .tree) (f d) slot ≡ slots (m .tree)
   pub exhausted : Exhausted w m slot next
 
 abbrev pub Step : ℕ → Memory → Memory → (ℕ → Bool) → ℕ → ℕ → ℕ → Type 0
-Step w m m' f d slot next = Extended w m m' f d slot next ⊎ Stuck w m m' f d slot next
+Step w m m' f d slot next = Extended w m m' f d slot next ⊎ Stuck w m m' slot next
 
 -- ANNOUNCED: the route is held; or it is not, as the ledger would need more slots than there are
 pub record Announced (w : ℕ) (m m' : Memory) (q : Bits) (h : ℕ) (r : Bool) : Type 0 where

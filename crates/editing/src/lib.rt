@@ -10,7 +10,7 @@ ghost use Rattle.memory.specs.Layout.{treeOf, memoryOf, layoutSlots, Shaped, Wh
 ghost use Rattle.memory.specs.Tidy.{bare, firstFree, nextFree};
 ghost use Rattle.editing.specs.Spare.{rises, idle, SpareFor};
 ghost use Rattle.editing.specs.Edits.{CanEdit, LinkSet, headAfter, Hung, Dropped};
-ghost use Rattle.editing.specs.Routes.{CanWithdraw, CanAnnounce, OnPath, Reworked, Step, Announced, Withdrawn};
+ghost use Rattle.editing.specs.Routes.{CanWithdraw, CanAnnounce, OnPath, Reaches, AtEnd, Reworked, Step, Announced, Withdrawn};
 use memory::Path;
 
 // Going up from a slot to slot 0 in at most `width` steps: 1 and the steps left, or 0 where the marks do not lead there.
@@ -181,8 +181,32 @@ fn drop_slot(
     set_link(lo, hi, parent, right, 0);
 }
 
-// The child of a slot on a path, made where there is none; the number of slots where no slot is left. The slot is that of the
-// path's first `depth` bits.
+// How far a path has slots: the last one, and how many of the path's bits lead to it.
+struct Met {
+    slot: usize,
+    depth: usize,
+}
+
+// The walk down a path's first `size` bits, as far as there are slots.
+fn walk(lo: &[u32], hi: &[u32], up: &[u32], path: Path, size: usize) -> Met
+    requires { ⌜ Shaped (treeOf (now lo) (now hi) (now up)) × (size ≤ pathBits) ⌝ }
+    ensures { λ r. ⌜ Reaches (treeOf (now (lo .entry)) (now (hi .entry)) (now (up .entry))) (pathBit path) size (r .depth) (r .slot) ⌝ }
+{
+    let mut slot: usize = 0;
+    let mut depth: usize = 0;
+    while depth < size {
+        let next = memory::child_of(lo, hi, up, slot, memory::bit(path, depth));
+        if next >= up.len() {
+            return Met { slot, depth };
+        }
+        slot = next;
+        depth += 1;
+    }
+    Met { slot, depth }
+}
+
+// A new child of the last slot on a path, which is that of the path's first `depth` bits; the number of slots where no slot is
+// left.
 fn extend(
     lo: &mut [u32],
     hi: &mut [u32],
@@ -193,19 +217,14 @@ fn extend(
     width: usize,
     slot: usize,
 ) -> usize
-    requires { ⌜ OnPath width (memoryOf (now lo) (now hi) (now up) (now hop)) (pathBit path) depth slot × (depth < width) ⌝ }
+    requires { ⌜ AtEnd width (memoryOf (now lo) (now hi) (now up) (now hop)) (pathBit path) depth slot ⌝ }
     ensures { λ r. ⌜ Step width (memoryOf (now (lo .entry)) (now (hi .entry)) (now (up .entry)) (now (hop .entry))) (memoryOf (now (lo .exit)) (now (hi .exit)) (now (up .exit)) (now (hop .exit))) (pathBit path) depth slot r ⌝ }
 {
-    let right = memory::bit(path, depth);
-    let next = memory::child_of(lo, hi, up, slot, right);
-    if next < up.len() {
-        return next;
-    }
     let free = spare(lo, hi, up, hop, slot, width);
     if free >= up.len() {
         return free;
     }
-    hang(lo, hi, up, hop, slot, right, free);
+    hang(lo, hi, up, hop, slot, memory::bit(path, depth), free);
     free
 }
 
@@ -251,8 +270,9 @@ pub fn announce(
     requires { ⌜ CanAnnounce width (memoryOf (now lo) (now hi) (now up) (now hop)) size neighbour ⌝ }
     ensures { λ r. ⌜ Announced width (memoryOf (now (lo .entry)) (now (hi .entry)) (now (up .entry)) (now (hop .entry))) (memoryOf (now (lo .exit)) (now (hi .exit)) (now (up .exit)) (now (hop .exit))) (prefixOf (pathBit path) size) neighbour r ⌝ }
 {
-    let mut slot: usize = 0;
-    let mut depth: usize = 0;
+    let met = walk(lo, hi, up, path, size);
+    let mut slot = met.slot;
+    let mut depth = met.depth;
     while depth < size {
         let next = extend(lo, hi, up, hop, path, depth, width, slot);
         if next >= up.len() {
