@@ -1,11 +1,9 @@
 -- The struct is the one for the answer of the call inside, and what that leaves is what is left.
 use mathlib.Core.Path.{_≡_, sym, ap, _∙_}
 use mathlib.Core.List.{List, []}
-use Rattle.rules.specs.Numbers.{ownSlots}
 use Rattle.writing.specs.declared.Wrote.{Wrote}
 use Rattle.writing.specs.declared.Wrote.the-variants.{Table, Refused}
-use Rattle.writing.specs.Promise.{outcomeOf}
-use Rattle.fresh.specs.Promise.{tabledOf, tableOf, Tables}
+use Rattle.fresh.specs.Promise.{tabledOf, Tables}
 use Rattle.answers.specs.declared.CountAnswer.{CountAnswer}
 use Rattle.answers.specs.Answers.{countFor, WroteSo}
 use Rattle.answers.proofs.Answers.{told-beside}

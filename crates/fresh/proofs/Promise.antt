@@ -15,7 +15,7 @@ use Rattle.theory.proofs.Longest.{none-some}
 use Rattle.rules.specs.Numbers.{ipv4, badListLength, noDefault, shortOutput}
 use Rattle.rules.specs.Records.{printTable}
 use Rattle.rules.specs.Plain.{Applied, updated}
-use Rattle.rules.specs.Writing.{smallestTable, written}
+use Rattle.rules.specs.Writing.{smallestTable}
 use Rattle.rules.proofs.Records.{table-length}
 use Rattle.rules.proofs.Numbered.{Between, update-between}
 use Rattle.rules.proofs.Held.{table-fits}

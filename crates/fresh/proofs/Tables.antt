@@ -23,7 +23,7 @@ use Rattle.ledger.specs.Promise.{Updates}
 use Rattle.ledger.proofs.History.{zeroed-fine}
 use Rattle.ledger.proofs.Wrong.{from-zeros}
 use Rattle.writing.specs.declared.Wrote.{Wrote}
-use Rattle.writing.specs.declared.Wrote.the-variants.{Table, Refused}
+use Rattle.writing.specs.declared.Wrote.the-variants.{Refused}
 use Rattle.writing.specs.Promise.{bytesFor, writeFault, Writes}
 use Rattle.writing.proofs.Promise.{fault-none, refused-10, refused-11, table-written}
 use Rattle.fresh.specs.Promise.{tabledOf, stopped, thenWritten, afterUpdate, tableOf, TablesIn}

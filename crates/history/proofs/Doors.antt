@@ -18,7 +18,6 @@ use Rattle.rules.proofs.Records.{table-length}
 use Rattle.rules.proofs.Held.{table-fits}
 use Rattle.rules.proofs.Smallest.{forward-alike}
 use Rattle.writing.specs.Promise.{bytesFor}
-use Rattle.fresh.specs.Promise.{tableOf}
 use Rattle.fresh.proofs.Promise.{made, made-only-so}
 use Rattle.answers.specs.declared.CountAnswer.{CountAnswer}
 use Rattle.answers.specs.Answers.{countFor}

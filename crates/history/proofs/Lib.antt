@@ -5,3 +5,4 @@ pub mod Room
 pub mod Union
 pub mod Wrong
 pub mod Doors
+pub mod WrongDoors

@@ -1,32 +1,31 @@
 -- The wrong answers that document 01 names break the doors' promises too, each at one of its cases, whatever else they answer and leave.
 use mathlib.Core.Path.{_≡_, refl, sym, ap, _∙_}
-use mathlib.Core.List.{List, [], _∷_, _++_}
-use mathlib.Core.Option.{none, some}
+use mathlib.Core.List.{List, [], _++_}
+use mathlib.Core.Option.{none}
 use Prim.Native.Nat.{ℕ, _*_, _≤_, _<_}
 use native.Mathlib.Omega.{arith}
+use borrow.Author.Tests.{le-ltb}
 use lib.ListN.{length, drop, getD}
-use Rattle.theory.specs.Ledger.{Entry, nothing}
-use Rattle.theory.proofs.Longest.{none-some}
+use Rattle.theory.specs.Ledger.{nothing}
 use Rattle.rules.specs.Numbers.{ipv4, recordBytes, mostSlots, ownSlots, mostInput}
 use Rattle.rules.specs.Records.{printAll, printTable}
 use Rattle.rules.specs.Plain.{updated}
-use Rattle.rules.specs.Lookup.{lookedUp}
-use Rattle.rules.specs.Writing.{writes, written}
+use Rattle.rules.specs.Writing.{writes}
 use Rattle.rules.proofs.Records.{printAll-length}
 use Rattle.memory.specs.Layout.{Memory, zeros, zeroed}
-use Rattle.lists.specs.Promise.{answerOf}
 use Rattle.lists.proofs.Promise as lists
+use Rattle.ledger.specs.Promise.{reported}
 use Rattle.ledger.proofs.Wrong as ledger
 use Rattle.writing.specs.Promise.{bytesFor}
 use Rattle.fresh.specs.Promise.{thenWritten, afterUpdate, tableOf}
-use Rattle.cases.specs.Cases.{Case, after, resultOf, Holds, caseC, tableC, copyOfC}
+use Rattle.cases.specs.Cases.{Case, after, Holds, caseC, tableC, copyOfC}
 use Rattle.cases.proofs.Cases.{cases-hold}
 use Rattle.answers.specs.declared.FoundAnswer.{FoundAnswer}
 use Rattle.answers.specs.declared.CountAnswer.{CountAnswer}
-use Rattle.answers.specs.Answers.{countFor}
+use Rattle.answers.specs.Answers.{numberOf, countFor}
 use Rattle.arvandish.specs.Promise.{LooksUpForC, TablesForC}
 use Rattle.arvandish_ledger.specs.Promise.{UpdatesToC, LooksUpToC, WritesToC}
-use Rattle.program.specs.Promise.{afterList, writesFor, Answers}
+use Rattle.program.specs.Promise.{thenTable, afterList, writesFor, Answers}
 use Rattle.history.proofs.Room.{more-room}
 use Rattle.history.proofs.Wrong as wrong
 
@@ -90,10 +89,9 @@ lookup-always-one-breaks address r meets one = omega (arith, one, ap (λ a. a .h
 C-written : writesFor listC ≡ printTable ipv4 tableC
 unfolding writesFor
 C-written =
-    rw (le-ltb mostInput (length listC) (omega (arith, printAll-length ipv4 (caseC .records))))
-    (ap (λ a. afterList (a .refusal) a) (at-doors caseC C-holds refl (omega arith))
+    ap (λ a. afterList (a .refusal) a) (at-doors caseC C-holds refl (omega arith))
     ∙ ap (λ f. afterList f (after caseC)) (ap (λ a. a .refusal) (C-holds .answers))
-    ∙ ap thenTable (ap (λ a. a .output) (C-holds .answers)))
+    ∙ ap thenTable (ap (λ a. a .output) (C-holds .answers))
 
 pub program-writes-nothing-breaks : (output output' : List ℕ) → mostInput ≤ length output → Answers listC output output' 0 → ⊥
 program-writes-nothing-breaks output output' room answers =
@@ -107,11 +105,27 @@ program-copies-its-input-breaks output output' room answers =
     let wrong : _≡_ {A = ℕ} 32 24 = sym (printAll-length ipv4 (caseC .records)) ∙ as-many in
     omega arith
 
--- THE LEDGER DOOR: the wrong answers of the calls inside are wrong there
+-- THE LEDGER DOOR: what is wrong of the calls inside is wrong there
 module _ (n : ℕ) (some-slot : 0 < n) (few : n ≤ mostSlots) where
   pub ledger-refuses-everything-breaks : (m : Memory) (r : CountAnswer) → UpdatesToC (zeroed n) (ledger.default n some-slot few) m r
       → (r .number ≡ 0 → ⊥) → ⊥
-  ledger-refuses-everything-breaks m r meets refuses = ?
+  ledger-refuses-everything-breaks m r meets refuses =
+      refuses
+      (ap (λ a. a .number) (meets .told .told)
+      ∙ ap (λ p. numberOf (p .refusal)) (meets .meets .answer ∙ ap reported (ledger.default-taken n some-slot few)))
 
   pub ledger-applies-none-breaks : (r : CountAnswer) → UpdatesToC (zeroed n) (ledger.default n some-slot few) (zeroed n) r → ⊥
   ledger-applies-none-breaks r meets = ledger.applies-none-breaks n some-slot few (meets .answer) (meets .meets)
+
+  pub ledger-always-one-breaks : (x : ℕ) (r : FoundAnswer) → LooksUpToC (zeroed n) x r → r .hop ≡ 1 → ⊥
+  ledger-always-one-breaks x r meets one =
+      ledger.always-one-breaks n some-slot few (λ m y. meets .answer) (λ m y. sym (ap (λ a. a .hop) (meets .told .told)) ∙ one) x (meets .meets)
+
+module _ (m : Memory) (scratch scratch' : List ℕ) (r : CountAnswer) (C : wrong.HoldsCase caseC m scratch) where
+  pub ledger-leaves-the-output-breaks : WritesToC m scratch (zeros (bytesFor tableC)) scratch' (zeros (bytesFor tableC)) r → ⊥
+  ledger-leaves-the-output-breaks meets = wrong.leaves-the-output-breaks m scratch scratch' (meets .answer) C (meets .meets)
+
+  pub ledger-copies-the-ledger-breaks : (output rest : List ℕ) → bytesFor tableC ≤ length output
+      → WritesToC m scratch output scratch' (printTable ipv4 copyOfC ++ rest) r → ⊥
+  ledger-copies-the-ledger-breaks output rest room meets =
+      wrong.copies-the-ledger-breaks m scratch scratch' (meets .answer) C output rest room (meets .meets)

@@ -10,15 +10,15 @@ use lib.ListN.{length, drop, length-append}
 use borrow.Author.Tests.{lt-ltb, le-ltb}
 use Rattle.theory.specs.Ledger.{nothing, isHeld}
 use Rattle.theory.proofs.Longest.{none-some}
-use Rattle.rules.specs.Numbers.{ipv4, recordBytes, ownSlots, mostInput, badListLength, noSlots, noDefault, shortOutput, longInput}
+use Rattle.rules.specs.Numbers.{ipv4, recordBytes, ownSlots, mostInput, badListLength, noSlots, noDefault, longInput}
 use Rattle.rules.specs.Records.{printTable}
 use Rattle.rules.specs.Plain.{Applied, updated}
-use Rattle.rules.specs.Writing.{smallestTable, written}
+use Rattle.rules.specs.Writing.{smallestTable}
 use Rattle.rules.proofs.Records.{table-length}
 use Rattle.rules.proofs.Numbered.{Between, update-between}
 use Rattle.rules.proofs.Held.{few-applied, table-fits}
 use Rattle.writing.specs.declared.Wrote.the-variants.{Table, Refused}
-use Rattle.fresh.specs.Promise.{Tabled, tabledOf, tableOf, Tables}
+use Rattle.fresh.specs.Promise.{Tabled, tableOf, Tables}
 use Rattle.fresh.proofs.Promise.{Way, stops, no-default, short, writes-it, way}
 use Rattle.program.specs.Promise.{refusalRecord, afterList, writesFor, Stands, Answers, Refuses}
 
