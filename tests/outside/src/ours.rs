@@ -132,7 +132,6 @@ impl Ours {
         }
     }
 
-    #[cfg(feature = "table")]
     pub fn table(self, list: &[u8], output: &mut [u8]) -> Counted {
         let Some(fault) = self.fault else {
             return doors::table(list, output);

@@ -7,7 +7,6 @@ mod large;
 mod lists;
 mod rubbish;
 mod shapes;
-#[cfg(feature = "table")]
 mod table;
 mod trial;
 
@@ -57,9 +56,7 @@ pub const PROGRAM: Program = Program {
         KEPT,
         CASES,
         REACHED,
-        #[cfg(feature = "table")]
         table::ANSWER,
-        #[cfg(feature = "table")]
         table::OUTPUT,
     ],
     faults: &[
@@ -96,7 +93,6 @@ enum Call {
     Lookup,
     Write,
     ListLookup,
-    #[cfg(feature = "table")]
     Table,
 }
 
@@ -105,7 +101,6 @@ const NUMBERS: &[(Call, &[u32])] = &[
     (Call::Lookup, &[0, 1, 2]),
     (Call::Write, &[0, 1, 2, 10, 11]),
     (Call::ListLookup, &[0, 3, 4, 5, 6, 7]),
-    #[cfg(feature = "table")]
     (Call::Table, &[0, 3, 4, 5, 6, 7, 8, 9, 10, 11]),
 ];
 
@@ -161,7 +156,6 @@ fn body(options: &Options, verdict: &mut Verdict) -> String {
         rubbish::memories(round, &mut harness, &mut chance);
         shapes::any_lengths(round, &mut harness, &mut chance);
         lists::lookups(round, &mut harness, &mut chance);
-        #[cfg(feature = "table")]
         table::tables(round, &mut harness, &mut chance);
     }
     harness.check_reached();
