@@ -35,7 +35,7 @@
  * with length 0. Nothing else: any bytes are taken, each call checks for itself, stays inside what it is lent, and ends.
  *
  * The calls keep no state, allocate nothing and are safe to call from several threads at once, as long as no other thread writes to
- * what is lent. arvandish_table uses about 100 KiB of stack.
+ * what is lent. arvandish_table needs about 105 KiB of stack, arvandish_lookup next to none.
  *
  * That each call answers and leaves what stands here is proved by machine: docs/PROMISES.md.
  */
