@@ -1,0 +1,94 @@
+"""Every refusal of the library that the tool can reach, as text and as records, at several places."""
+from bench import figures, packed, refuses, says
+
+GOOD = [(0, 0, 1, 1), (0x0A000000, 8, 1, 2), (0x0A000000, 8, 2, 0)]
+GOOD_LINES = ["default via 1", "10.0.0.0/8 via 2", "withdraw 10.0.0.0/8"]
+DONE = ["no record was", "1 record was", "2 records were", "3 records were"]
+
+LENGTH = "the prefix length is over 32"
+BITS = "an address bit behind the prefix length is set"
+ACTION = "the action is neither 1, announce, nor 2, withdraw"
+NOT_ANNOUNCED = "the action is not 1, announce, and a list that is looked up has nothing else"
+HOP = "the hop is out of range: 1 to 64 to announce, 0 to withdraw"
+NOT_HELD = "a prefix is withdrawn that is not held"
+PART = "the length of the list is no multiple of 8 bytes, so it ends in a part of a record"
+
+BAD = [  # a line, its record, and the number and the words with which an update refuses it
+    ("10.0.0.0/33 via 5", (0x0A000000, 33, 1, 5), 4, LENGTH),
+    ("10.0.0.1/255 via 65", (0x0A000001, 255, 1, 65), 4, LENGTH),
+    ("10.0.0.1/8 via 5", (0x0A000001, 8, 1, 5), 5, BITS),
+    ("128.0.0.0/0 via 65", (0x80000000, 0, 1, 65), 5, BITS),
+    ("action 3 10.0.0.0/8 hop 5", (0x0A000000, 8, 3, 5), 6, ACTION),
+    ("action 0 10.0.0.0/8 hop 65", (0x0A000000, 8, 0, 65), 6, ACTION),
+    ("10.0.0.0/8 via 65", (0x0A000000, 8, 1, 65), 7, HOP),
+    ("10.0.0.0/8 via 0", (0x0A000000, 8, 1, 0), 7, HOP),
+    ("action 2 10.0.0.0/8 hop 1", (0x0A000000, 8, 2, 1), 7, HOP),
+    ("withdraw 11.0.0.0/8", (0x0B000000, 8, 2, 0), 8, NOT_HELD),
+]
+
+
+def updates():
+    for text, record, number, words in BAD:
+        for place in range(len(GOOD) + 1):
+            done = DONE[place] + " applied before it"
+            feed = "# a comment\n" + "\n".join(GOOD_LINES[:place] + [text] + GOOD_LINES[place:])
+            where = "record %d (counted from 0), line %d of standard input: %s" % (place, place + 2, text)
+            refuses(["squeeze"], feed, number, words, where, done)
+            refuses(["lookup", "10.0.0.1"], feed, number, words, where, done)
+            where = "record %d (counted from 0) of standard input: %s" % (place, text)
+            feed = packed(GOOD[:place] + [record] + GOOD[place:])
+            refuses(["squeeze", "--to", "records"], feed, number, words, where, done)
+
+
+def lists():
+    """Looked up in the list, where a withdrawal is refused, too."""
+    withdrawal = ("withdraw 10.0.0.0/8", (0x0A000000, 8, 2, 0), 6, NOT_ANNOUNCED)
+    for text, record, number, words in BAD[:-1] + [withdrawal]:
+        if record[2] != 1 and number in (6, 7):
+            number, words = 6, NOT_ANNOUNCED
+        for place in range(3):
+            good = GOOD[:2]
+            feed = packed(good[:place] + [record] + good[place:])
+            where = "record %d (counted from 0) of standard input: %s" % (place, text)
+            refuses(["lookup", "--table", "10.0.0.1", "11.0.0.1"], feed, number, words, where, DONE[place] + " read before it")
+
+
+def whole_calls():
+    good = packed(GOOD)
+    for count in (1, 7, 9, 15, 23):
+        where = "standard input: %d bytes of records" % count
+        refuses(["squeeze", "--records"], good[:count], 3, PART, where, "no record was applied")
+        refuses(["lookup", "10.0.0.1", "--records"], good[:count], 3, PART, where, "no record was applied")
+        for arguments in (["show", "--records"], ["lookup", "--table", "10.0.0.1", "--records"]):
+            refuses(arguments, good[:count], 3, PART, where, "no record was read")
+    where = "standard input: 24 bytes of records"
+    for slots in (0, 65537, 2**24):
+        for command in (["squeeze"], ["lookup", "10.0.0.1"]):
+            refuses([*command, "--slots", str(slots)], good, 1, "a ledger cannot have %d slots" % slots, where,
+                    "no record was applied")
+    # A whole call's refusal comes before a record's, and 1 before 3.
+    refuses(["squeeze", "--slots", "0"], good[:7], 1, "a ledger cannot have 0 slots", "standard input: 7 bytes of records",
+            "no record was applied")
+    refuses(["squeeze"], packed([BAD[0][1]]) + b"\0", 3, PART, "standard input: 9 bytes of records", "no record was applied")
+    no_default = "no default route, 0.0.0.0/0, is held at the end, so no table is written"
+    for feed, size, done in (("10.0.0.0/8 via 5", 8, DONE[1]), ("default via 1\nwithdraw default", 16, DONE[2]),
+                             ("0.0.0.0/1 via 1\n128.0.0.0/1 via 1\n10.0.0.0/8 via 5", 24, DONE[3])):
+        refuses(["squeeze"], feed, 10, no_default, "standard input: %d bytes of records" % size, done + " applied, all of the feed")
+
+
+def slots():
+    """Document 01's case J: 33 slots are enough, 32 are not."""
+    feed, table = "default via 1\n255.255.255.255/32 via 2\n", "0.0.0.0/0 via 1\n255.255.255.255/32 via 2\n"
+    says(["squeeze", "--slots", "33"], feed, out=table, err=figures(2, 33, 33, 2))
+    says(["squeeze", "--slots=65536"], feed, out=table, err=figures(2, 33, 65536, 2))
+    for command in (["squeeze"], ["lookup", "10.0.0.1"]):
+        refuses([*command, "--slots", "32"], feed, 9, "the routes need more slots than the 32 that are lent",
+                "record 1 (counted from 0), line 2 of standard input: 255.255.255.255/32 via 2", "1 record was applied before it")
+    says(["squeeze", "--slots", "1", "-q"], "default via 1", out="0.0.0.0/0 via 1\n")
+
+
+def try_all():
+    updates()
+    lists()
+    whole_calls()
+    slots()
