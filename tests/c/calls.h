@@ -5,7 +5,8 @@
 #include "plant.h"
 #include "records.h"
 
-static void lookup_once(struct where at, struct bytes list, uint32_t address, struct arvandish_found expected, bool null)
+static void lookup_once(struct where at, struct bytes list, uint32_t address, struct arvandish_found expected,
+                        bool null)
 {
     struct lent in = lend(list, 0);
     struct arvandish_found came = arvandish_lookup(null ? NULL : in.bytes, list.length, address);
@@ -24,8 +25,8 @@ static void lookup_at(struct where at, struct bytes list, uint32_t address, stru
 }
 
 /* NULL stands for a list and an output of no bytes, if `null`. */
-static void table_once(struct where at, struct bytes list, size_t room, struct arvandish_written expected, struct bytes table,
-                       uint8_t flip, bool null)
+static void table_once(struct where at, struct bytes list, size_t room, struct arvandish_written expected,
+                       struct bytes table, uint8_t flip, bool null)
 {
     struct lent in = lend(list, flip), out = lend_blank(room, flip);
     expect_first(out, table);
@@ -39,7 +40,8 @@ static void table_once(struct where at, struct bytes list, size_t room, struct a
 }
 
 /* Twice with other bytes in the output, so that no byte written can pass for one that was there before. */
-static void table_at(struct where at, struct bytes list, size_t room, struct arvandish_written expected, struct bytes table)
+static void table_at(struct where at, struct bytes list, size_t room, struct arvandish_written expected,
+                     struct bytes table)
 {
     table_once(at, list, room, expected, table, 0, false);
     table_once(at, list, room, expected, table, 255, false);
@@ -48,7 +50,8 @@ static void table_at(struct where at, struct bytes list, size_t room, struct arv
 }
 
 #define LOOKUP(list, address, hop) lookup_at(HERE, list, address, (struct arvandish_found){0, hop, 0})
-#define LOOKUP_REFUSED(list, address, number, place) lookup_at(HERE, list, address, (struct arvandish_found){number, 0, place})
+#define LOOKUP_REFUSED(list, address, number, place) \
+    lookup_at(HERE, list, address, (struct arvandish_found){number, 0, place})
 #define TABLE(list, room, table) \
     table_at(HERE, list, room, (struct arvandish_written){0, (table).length / RECORD}, table)
 #define TABLE_REFUSED(list, room, number, count) \

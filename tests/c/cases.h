@@ -1,4 +1,4 @@
-/* Document 01's cases, with prefixes as bits. J's 32 slots cannot be lent to this door: its library has 4,096 of its own. */
+/* Document 01's cases, with prefixes as bits. J's 32 slots cannot be lent: this door has 4,096 of its own. */
 #ifndef CASES_H
 #define CASES_H
 

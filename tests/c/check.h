@@ -9,7 +9,7 @@
 #include <stdio.h>
 #include <stdlib.h>
 
-enum { REPORTS = 20 }; /* more would bury the first */
+enum { REPORTS = 20 }; /* after so many failures the test gives up: more would bury the first */
 
 struct where {
     const char *file;
@@ -28,15 +28,23 @@ static void now_trying(const char *format, ...)
     va_end(values);
 }
 
-/* One check. True if its failure is to be told. */
+/* How the test ends. */
+static void end(void)
+{
+    printf("the C door: %lu checks, %lu failed\n", checks, failed);
+    exit(failed > 0);
+}
+
+/* One check. True if it fails: then the caller tells how. */
 static bool fails(struct where at, bool holds)
 {
+    if (failed == REPORTS)
+        end();
     checks += 1;
     failed += !holds;
-    if (holds || failed > REPORTS)
-        return false;
-    printf("%s:%d: %s: ", at.file, at.line, trying);
-    return true;
+    if (!holds)
+        printf("%s:%d: %s: ", at.file, at.line, trying);
+    return !holds;
 }
 
 static void check_number(struct where at, const char *what, uint64_t expected, uint64_t came)
@@ -46,7 +54,8 @@ static void check_number(struct where at, const char *what, uint64_t expected, u
 }
 
 /* Every byte; a failure tells of the first that differs. `first` is the number of the first byte, for the report. */
-static void check_bytes(struct where at, const char *what, const uint8_t *expected, const uint8_t *came, size_t length, long first)
+static void check_bytes(struct where at, const char *what, const uint8_t *expected, const uint8_t *came, size_t length,
+                        long first)
 {
     size_t same = 0;
     while (same < length && expected[same] == came[same])

@@ -189,7 +189,7 @@ static uint32_t draw(uint32_t bound)
     return word % bound;
 }
 
-/* Random announcements of prefixes of at most WIDE bits, and withdrawals of them if `withdrawals`. The default stays. */
+/* Random announcements of prefixes of at most WIDE bits, and withdrawals if these are wanted. The default stays. */
 static void long_list(struct list *list, struct plain *plain, bool withdrawals)
 {
     memset(plain, 0, sizeof *plain);
@@ -249,6 +249,5 @@ int main(int arguments, char **argument)
     lookups();
     slots();
     long_lists();
-    printf("the C door: %lu checks, %lu failed\n", checks, failed);
-    return failed > 0;
+    end();
 }

@@ -1,4 +1,4 @@
-/* Bytes that are lent to the library, with guard bytes on both sides, and what all of them have to be after the call. */
+/* Bytes lent to the library, with guard bytes on both sides, and what all of them have to be after the call. */
 #ifndef LENT_H
 #define LENT_H
 

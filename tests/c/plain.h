@@ -1,6 +1,6 @@
 /*
- * Document 01 on all strings of at most WIDE bits, with no trie and no slots: a ledger of prefixes so short, and its smallest table.
- * A string of WIDE bits has one hop throughout, as nothing is held below it.
+ * Document 01 on all strings of at most WIDE bits, with no trie and no slots: a ledger of prefixes so short, and its
+ * smallest table. A string of WIDE bits has one hop throughout, as nothing is held below it.
  */
 #ifndef PLAIN_H
 #define PLAIN_H
@@ -9,7 +9,7 @@
 
 enum { WIDE = 11, ALL_STRINGS = 1 << (WIDE + 1) };
 
-/* A string of n bits with the value v is element 2^n + v, so its children are twice that and one more. 0: none is held. */
+/* A string of n bits with the value v is element 2^n + v; its children are twice that and one more. 0: none held. */
 struct plain {
     uint8_t held[ALL_STRINGS];
 };

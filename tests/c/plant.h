@@ -1,6 +1,6 @@
 /*
- * Faults to plant in what comes back from the library, so that the test can be seen to fail: gcc -DPLANT=n plants the n-th.
- * Each is planted wherever it can be, and what it needs (an output, a refusal) is said with it.
+ * Faults to plant in what comes back from the library, so that the test can be seen to fail: gcc -DPLANT=n plants the
+ * n-th. Each is planted in every call that has what it needs: a table, an output, a list, this refusal.
  */
 #ifndef PLANT_H
 #define PLANT_H
@@ -84,7 +84,8 @@ static void plant_in_table(struct arvandish_written *came, struct lent list, str
     spoil_lent(out, planted_for(REFUSAL_CHANGES_FIRST_OUTPUT_BYTE, number),
                (planted(LAST_OUTPUT_BYTE) && rest) || planted_for(REFUSAL_CHANGES_LAST_OUTPUT_BYTE, number),
                planted(BYTE_BEFORE_OUTPUT), planted(BYTE_BEHIND_OUTPUT));
-    spoil_lent(list, planted(FIRST_LIST_BYTE), planted(LAST_LIST_BYTE), planted(BYTE_BEFORE_LIST), planted(BYTE_BEHIND_LIST));
+    spoil_lent(list, planted(FIRST_LIST_BYTE), planted(LAST_LIST_BYTE), planted(BYTE_BEFORE_LIST),
+               planted(BYTE_BEHIND_LIST));
 
     if ((planted(COUNT_OF_SUCCESS) && number == 0) || planted_for(REFUSAL_HAS_ANOTHER_COUNT, number))
         came->count += 1;

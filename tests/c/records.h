@@ -18,7 +18,8 @@ static struct bytes all_of(const struct list *list)
 
 static void put(struct list *list, size_t place, uint32_t address, unsigned length, unsigned action, unsigned hop)
 {
-    const unsigned fields[RECORD] = {address >> 24, address >> 16, address >> 8, address, length, action, hop >> 8, hop};
+    const unsigned fields[RECORD] = {address >> 24, address >> 16, address >> 8, address,
+                                     length,        action,        hop >> 8,     hop};
     for (size_t k = 0; k < RECORD; k++)
         list->bytes[RECORD * place + k] = (uint8_t)fields[k];
 }

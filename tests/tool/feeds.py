@@ -15,7 +15,7 @@ def words(seed):
 
 
 def busy():
-    """Announcements and withdrawals of prefixes of 12 to 22 bits below 10.0.0.0/8, so that routes meet and hops are replaced."""
+    """Announcements and withdrawals of prefixes of 12 to 22 bits below 10.0.0.0/8, so close that many meet again."""
     records, routes, draw = [(0, 0, 1, 1)], {"": 1}, words(2463534242)
     while len(records) < LINES:
         length = 12 + next(draw) % 11
@@ -52,7 +52,7 @@ def taken():
 
 
 def most_used(records):
-    """The most slots that the ledger needs after any of the records: counted by how many held prefixes begin with a string."""
+    """The most slots that the ledger needs after any of the records; `below` counts the held prefixes that begin so."""
     below, held, most, inner = {}, set(), 1, 1
     for address, length, action, _ in records:
         prefix = bits(address, length)

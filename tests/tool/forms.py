@@ -32,12 +32,15 @@ UNREADABLE = [  # a line, and what is expected instead
     ("10.0.0.0/8", A_LINE), ("via 5", A_LINE), ("10.0.0.0/8 via 5 6", A_LINE), ("10.0.0.0/8 5", A_LINE),
     ("withdraw", A_LINE), ("withdraw 10.0.0.0/8 via 5", A_LINE), ("announce 10.0.0.0/8 via 5", A_LINE),
     ("action 3 10.0.0.0/8 via 5", A_LINE), ("10.0.0.0/8 VIA 5", A_LINE), (",", A_LINE),
-    ("10.0.0.0 via 5", A_PREFIX), ("10.0.0/8 via 5", A_PREFIX), ("10.0.0.256/8 via 5", A_PREFIX), ("Default via 5", A_PREFIX),
-    ("10.0.0.-1/8 via 5", A_PREFIX), ("010.0.0.0/8 via 5", A_PREFIX), ("::/0 via 5", A_PREFIX), ("withdraw 10", A_PREFIX),
-    ("10.0.0.0/256 via 5", A_BYTE), ("10.0.0.0/ via 5", A_BYTE), ("10.0.0.0/-1 via 5", A_BYTE), ("10.0.0.0/8/9 via 5", A_BYTE),
-    ("10.0.0.0/+8 via 5", A_BYTE), ("action 256 10.0.0.0/8 hop 5", A_BYTE), ("action x 10.0.0.0/8 hop 5", A_BYTE),
-    ("10.0.0.0/8 via 65536", A_HOP), ("10.0.0.0/8 via five", A_HOP), ("10.0.0.0/8 via +5", A_HOP), ("10.0.0.0/8 via -5", A_HOP),
-    ("10.0.0.0/8 via 5.0", A_HOP), ("action 3 10.0.0.0/8 hop 99999999999999999999", A_HOP),
+    ("10.0.0.0 via 5", A_PREFIX), ("10.0.0/8 via 5", A_PREFIX), ("10.0.0.256/8 via 5", A_PREFIX),
+    ("Default via 5", A_PREFIX), ("10.0.0.-1/8 via 5", A_PREFIX), ("010.0.0.0/8 via 5", A_PREFIX),
+    ("::/0 via 5", A_PREFIX), ("withdraw 10", A_PREFIX),
+    ("10.0.0.0/256 via 5", A_BYTE), ("10.0.0.0/ via 5", A_BYTE), ("10.0.0.0/-1 via 5", A_BYTE),
+    ("10.0.0.0/8/9 via 5", A_BYTE), ("10.0.0.0/+8 via 5", A_BYTE), ("action 256 10.0.0.0/8 hop 5", A_BYTE),
+    ("action x 10.0.0.0/8 hop 5", A_BYTE),
+    ("10.0.0.0/8 via 65536", A_HOP), ("10.0.0.0/8 via five", A_HOP), ("10.0.0.0/8 via +5", A_HOP),
+    ("10.0.0.0/8 via -5", A_HOP), ("10.0.0.0/8 via 5.0", A_HOP),
+    ("action 3 10.0.0.0/8 hop 99999999999999999999", A_HOP),
 ]
 
 
@@ -52,15 +55,19 @@ def what_lines_say():
     says(["pack"], b"default via 1 # caf\xe9\n", out=packed([(0, 0, 1, 1)]), title="a comment that is not UTF-8:")
 
 
+def cannot_be_read(number, text, expected):
+    return "line %d of standard input cannot be read: %s\n  expected %s" % (number, text, expected)
+
+
 def unreadable():
     for text, expected in UNREADABLE:
         for command in ("pack", "squeeze"):
-            wrong([command], "default via 1\n\n%s\n# end\n" % text,
-                  "line 3 of standard input cannot be read: %s\n  expected %s" % (text, expected), title=repr(text))
-    wrong(["pack"], b"caf\xe9", "line 1 of standard input cannot be read: caf\ufffd\n  expected " + A_LINE)
-    wrong(["pack", "--text"], b"\x1b[2J\0", "line 1 of standard input cannot be read: \ufffd[2J\ufffd\n  expected " + A_LINE)
-    wrong(["pack"], "x" * 5000, "line 1 of standard input cannot be read: %s ...\n  expected %s" % ("x" * 100, A_LINE))
-    wrong(["pack"], "x" * 100, "line 1 of standard input cannot be read: %s\n  expected %s" % ("x" * 100, A_LINE))
+            feed = "default via 1\n\n%s\n# end\n" % text
+            wrong([command], feed, cannot_be_read(3, text, expected), title=repr(text))
+    wrong(["pack"], b"caf\xe9", cannot_be_read(1, "caf\ufffd", A_LINE))
+    wrong(["pack", "--text"], b"\x1b[2J\0", cannot_be_read(1, "\ufffd[2J\ufffd", A_LINE))
+    wrong(["pack"], "x" * 5000, cannot_be_read(1, "x" * 100 + " ...", A_LINE))
+    wrong(["pack"], "x" * 100, cannot_be_read(1, "x" * 100, A_LINE))
 
 
 def there_and_back():
@@ -89,8 +96,7 @@ def which_form():
     refuses(["squeeze", "--records"], "ABCDEFGH", 4, "the prefix length is over 32",
             "record 0 (counted from 0) of standard input: action 70 65.66.67.68/69 hop 18248",
             "no record was applied before it")
-    wrong(["squeeze", "--text"], record,
-          "line 1 of standard input cannot be read: \ufffd\ufffd\ufffd\ufffd\ufffd\ufffd\ufffd\ufffd\n  expected " + A_LINE)
+    wrong(["squeeze", "--text"], record, cannot_be_read(1, "\ufffd" * 8, A_LINE))
     # The one byte that tells them apart is enough, wherever it stands.
     for byte in range(32):
         control = bytes([byte]) not in b"\t\n\r"
@@ -103,7 +109,7 @@ def empty():
     nothing = "no default route, 0.0.0.0/0, is held at the end, so no table is written"
     for feed in ("", "\n", "# nothing\n"):
         says(["pack"], feed, title=repr(feed))
-        refuses(["squeeze"], feed, 10, nothing, "standard input: 0 bytes of records", "no record was applied, all of the feed")
+        refuses(["squeeze"], feed, 10, nothing, "standard input: 0 bytes of records", "the feed has no records")
         says(["lookup", "10.0.0.1"], feed, out="10.0.0.1 has no route\n")
         says(["lookup", "--table", "10.0.0.1"], feed, out="10.0.0.1 has no route\n")
     for arguments in (["show"], ["show", "--records"], ["pack", "--text"]):

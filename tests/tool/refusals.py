@@ -50,7 +50,8 @@ def lists():
             good = GOOD[:2]
             feed = packed(good[:place] + [record] + good[place:])
             where = "record %d (counted from 0) of standard input: %s" % (place, text)
-            refuses(["lookup", "--table", "10.0.0.1", "11.0.0.1"], feed, number, words, where, DONE[place] + " read before it")
+            done = DONE[place] + " read before it"
+            refuses(["lookup", "--table", "10.0.0.1", "11.0.0.1"], feed, number, words, where, done)
 
 
 def whole_calls():
@@ -61,19 +62,20 @@ def whole_calls():
         refuses(["lookup", "10.0.0.1", "--records"], good[:count], 3, PART, where, "no record was applied")
         for arguments in (["show", "--records"], ["lookup", "--table", "10.0.0.1", "--records"]):
             refuses(arguments, good[:count], 3, PART, where, "no record was read")
-    where = "standard input: 24 bytes of records"
+    # 1 comes before 3, and 3 before what is wrong with a record.
     for slots in (0, 65537, 2**24):
         for command in (["squeeze"], ["lookup", "10.0.0.1"]):
-            refuses([*command, "--slots", str(slots)], good, 1, "a ledger cannot have %d slots" % slots, where,
-                    "no record was applied")
-    # A whole call's refusal comes before a record's, and 1 before 3.
-    refuses(["squeeze", "--slots", "0"], good[:7], 1, "a ledger cannot have 0 slots", "standard input: 7 bytes of records",
-            "no record was applied")
-    refuses(["squeeze"], packed([BAD[0][1]]) + b"\0", 3, PART, "standard input: 9 bytes of records", "no record was applied")
+            for count in (24, 7):
+                words, where = "a ledger cannot have %d slots" % slots, "standard input: %d bytes of records" % count
+                arguments = [*command, "--records", "--slots", str(slots)]
+                refuses(arguments, good[:count], 1, words, where, "no record was applied")
+    where = "standard input: 9 bytes of records"
+    refuses(["squeeze"], packed([BAD[0][1]]) + b"\0", 3, PART, where, "no record was applied")
     no_default = "no default route, 0.0.0.0/0, is held at the end, so no table is written"
     for feed, size, done in (("10.0.0.0/8 via 5", 8, DONE[1]), ("default via 1\nwithdraw default", 16, DONE[2]),
                              ("0.0.0.0/1 via 1\n128.0.0.0/1 via 1\n10.0.0.0/8 via 5", 24, DONE[3])):
-        refuses(["squeeze"], feed, 10, no_default, "standard input: %d bytes of records" % size, done + " applied, all of the feed")
+        where = "standard input: %d bytes of records" % size
+        refuses(["squeeze"], feed, 10, no_default, where, done + " applied, all of the feed")
 
 
 def slots():
@@ -81,9 +83,10 @@ def slots():
     feed, table = "default via 1\n255.255.255.255/32 via 2\n", "0.0.0.0/0 via 1\n255.255.255.255/32 via 2\n"
     says(["squeeze", "--slots", "33"], feed, out=table, err=figures(2, 33, 33, 2))
     says(["squeeze", "--slots=65536"], feed, out=table, err=figures(2, 33, 65536, 2))
+    where = "record 1 (counted from 0), line 2 of standard input: 255.255.255.255/32 via 2"
     for command in (["squeeze"], ["lookup", "10.0.0.1"]):
-        refuses([*command, "--slots", "32"], feed, 9, "the routes need more slots than the 32 that are lent",
-                "record 1 (counted from 0), line 2 of standard input: 255.255.255.255/32 via 2", "1 record was applied before it")
+        refuses([*command, "--slots", "32"], feed, 9, "the routes need more slots than the 32 that are lent", where,
+                "1 record was applied before it")
     says(["squeeze", "--slots", "1", "-q"], "default via 1", out="0.0.0.0/0 via 1\n")
 
 

@@ -11,10 +11,10 @@ def records_of(sample):
     records = []
     for words in (text.split("#")[0].split() for text in file("samples", sample).decode().splitlines()):
         if words:
-            prefix = words[1] if words[0] == "withdraw" else words[0]
-            address, length = ("0.0.0.0/0" if prefix == "default" else prefix).split("/")
+            withdrawn = words[0] == "withdraw"
+            address, length = words[withdrawn].replace("default", "0.0.0.0/0").split("/")
             number = int.from_bytes(bytes(map(int, address.split("."))), "big")
-            records.append((number, int(length), 2, 0) if words[0] == "withdraw" else (number, int(length), 1, int(words[2])))
+            records.append((number, int(length)) + ((2, 0) if withdrawn else (1, int(words[2]))))
     return records
 
 

@@ -44,8 +44,8 @@ impl Ledger {
         self.memory.up.len()
     }
 
-    // The two counts read the memory by docs/LAYOUT.md. They are true of memory that the library made from zeros, as here:
-    // there a slot has a mark exactly when it is in use, slot 0 apart, and a stored hop exactly when its prefix is held.
+    // The two counts read the memory by docs/LAYOUT.md. They are true of memory that the library made from zeros, as
+    // here: a slot other than 0 has a mark exactly when it is in use, and a stored hop exactly when its prefix is held.
 
     pub fn used(&self) -> usize {
         1 + self.memory.up.iter().skip(1).filter(|&&mark| mark != 0).count()

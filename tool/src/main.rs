@@ -1,4 +1,4 @@
-//! arvandish: the proved library at the operator's bench. Every answer comes from the library; this reads, asks and prints.
+//! arvandish: the proved library at the operator's bench. The library answers; this reads, asks and prints.
 
 mod args;
 mod feed;
@@ -84,7 +84,10 @@ fn figures(ledger: &Ledger, written: usize) -> String {
     let (held, used, slots) = (ledger.held(), ledger.used(), ledger.slots());
     let ratio = 100.0 * written as f64 / held as f64;
     format!(
-        "held routes      {held}\nslots used       {used} of {slots}\nwritten records  {written}\nratio            {ratio:.1} %\n"
+        "held routes      {held}\n\
+         slots used       {used} of {slots}\n\
+         written records  {written}\n\
+         ratio            {ratio:.1} %\n"
     )
 }
 

@@ -95,8 +95,8 @@ pub const OPTIONS: &[Choice] = &[
 ];
 
 const FEEDS: &str = "\
-A feed is a file, or standard input for none or `-`. It is text, one route a line, or records of 8 bytes; which of them, its
-bytes tell. In text, blank lines and what stands behind a # do not count:
+A feed is a file, or standard input for none or `-`. It is text, one route a line, or records of 8 bytes; which of
+them, its bytes tell. In text, blank lines and what stands behind a # do not count:
 
   10.0.0.0/8 via 5             announce: to hop 5; `default via 1` is 0.0.0.0/0 via 1
   withdraw 10.0.0.0/8          take back exactly this prefix

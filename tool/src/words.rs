@@ -75,6 +75,7 @@ impl Refusal {
         match self.call {
             Call::Update { .. } if self.of_whole_call() => "no record was applied".to_string(),
             Call::Update { .. } => format!("{} applied before it", records(self.count)),
+            Call::Writing | Call::Lookup if feed.count() == 0 => "the feed has no records".to_string(),
             Call::Writing | Call::Lookup => format!("{} applied, all of the feed", records(feed.count() as u64)),
             Call::ListLookup if self.of_whole_call() => "no record was read".to_string(),
             Call::ListLookup => format!("{} read before it", records(self.count)),
