@@ -1,6 +1,6 @@
 """The command line: help, options, files, pipes and what cannot be used."""
 import os, pty, re, tempfile
-from bench import figures, file, packed, run, same, says, wrong
+from checks import figures, file, packed, run, same, says, wrong
 from samples import SLOTS
 
 OPTIONS = {

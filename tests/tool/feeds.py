@@ -1,5 +1,5 @@
 """Long feeds: 20,000 lines, and feeds that need more slots than the tool lends at first, or than there can be."""
-from bench import figures, lines, packed, refuses, says
+from checks import figures, lines, packed, refuses, says
 from plain import bits, dotted, longest, next_word
 from samples import table_of
 

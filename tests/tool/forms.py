@@ -1,5 +1,5 @@
 """Text and records: what lines say, odd text, odd bytes, and the way there and back."""
-from bench import figures, lines, packed, refuses, run, same, says, wrong
+from checks import figures, lines, packed, refuses, run, same, says, wrong
 from plain import next_word
 from samples import SLOTS
 

@@ -1,5 +1,5 @@
 """Every refusal of the library that the tool can reach, as text and as records, at several places."""
-from bench import figures, packed, refuses, says
+from checks import figures, packed, refuses, says
 
 GOOD = [(0, 0, 1, 1), (0x0A000000, 8, 1, 2), (0x0A000000, 8, 2, 0)]
 GOOD_LINES = ["default via 1", "10.0.0.0/8 via 2", "withdraw 10.0.0.0/8"]

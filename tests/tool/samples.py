@@ -1,5 +1,5 @@
 """The samples, against expected/ and against the plain programs of document 01."""
-from bench import figures, file, lines, packed, refuses, run, same, says
+from checks import figures, file, lines, packed, refuses, run, same, says
 from plain import ALL, Ledger, dotted, longest, needs
 from smallest import smallest
 
