@@ -113,6 +113,8 @@ pub struct Table {
     pub hops: Hops,
     /// The default route first, then as the kind draws them; no prefix twice.
     pub routes: Vec<Route>,
+    /// What it was drawn to fit into.
+    slots: usize,
 }
 
 impl Table {
@@ -137,7 +139,12 @@ impl Table {
             }
         }
         routes.truncate(fits);
-        Table { kind, hops, routes }
+        Table { kind, hops, routes, slots }
+    }
+
+    /// A table of the same kind and, as far as the slots have room, size.
+    pub fn another(&self, chance: &mut Chance) -> Table {
+        Table::draw(self.kind, self.routes.len(), self.slots, chance)
     }
 
     /// The routes but the default, which is always held.

@@ -2,13 +2,13 @@
 
 use crate::bursts;
 use crate::generator::{Prefix, Route, Table};
-use crate::work::{Bursts, Feed, ListLookups, Lookups, SingleUpdates};
+use crate::work::{Bursts, Feeds, ListLookups, Lookups, SingleUpdates};
 use chance::Chance;
 use doors::records::{Fields, RECORD};
 
 /// Operations of a turn: enough to be timed well, few enough to be seldom interrupted.
 const BATCH: usize = 2_048;
-/// Batches that differ, so that the processor does not learn one by heart.
+/// Batches of a work, or tables of one kind and size.
 const BATCHES: usize = 16;
 /// Records of a list that a turn of list lookups goes through, about.
 const LIST_RECORDS: usize = 65_536;
@@ -61,13 +61,15 @@ impl Inputs<'_> {
         SingleUpdates { batches: (0..BATCHES).map(|_| batch(self)).collect() }
     }
 
-    /// The same hop changes in one list.
-    pub fn hop_changes_in_one_list(&mut self) -> Feed {
-        Feed { list: self.hop_changes().batches[0].concat(), from_empty: false }
+    /// The same hop changes, a batch in one list.
+    pub fn hop_changes_in_one_list(&mut self) -> Feeds {
+        Feeds { lists: self.hop_changes().batches.iter().map(|batch| batch.concat()).collect(), from_empty: false }
     }
 
-    pub fn whole_table(&self) -> Feed {
-        Feed { list: feed_of(&self.table.routes), from_empty: true }
+    /// Tables like this one, each in one list.
+    pub fn whole_tables(&mut self) -> Feeds {
+        let lists = (0..BATCHES).map(|_| feed_of(&self.table.another(self.chance).routes)).collect();
+        Feeds { lists, from_empty: true }
     }
 
     pub fn any_addresses(&mut self) -> Lookups {

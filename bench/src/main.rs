@@ -52,7 +52,7 @@ fn everything(kind: Kind, size: usize, word: &str) -> Section {
     bench.row("hop change, one record a call", |inputs| inputs.hop_changes());
     bench.row("withdraw or announce, one record a call", |inputs| inputs.withdrawals_and_announcements());
     bench.row("hop change, in one list", |inputs| inputs.hop_changes_in_one_list());
-    bench.row("announce, the table in one list", |inputs| inputs.whole_table());
+    bench.row("announce, the table in one list", |inputs| inputs.whole_tables());
     bench.row("ledger lookup, any address", |inputs| inputs.any_addresses());
     bench.row("ledger lookup, inside a route", |inputs| inputs.addresses_inside());
     bench.row("list lookup, a record of the list", |inputs| inputs.list_lookups());

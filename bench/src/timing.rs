@@ -108,7 +108,7 @@ fn timed<S: Side>(work: &impl Work, seat: &mut Seat<S>, turn: usize) -> f64 {
     work.prepare(seat, turn);
     let start = Instant::now();
     work.turn(seat, turn, &mut Unread);
-    start.elapsed().as_nanos() as f64 / work.operations() as f64
+    start.elapsed().as_nanos() as f64 / work.operations(turn) as f64
 }
 
 struct Unread;

@@ -13,11 +13,11 @@ pub trait Taker {
 }
 
 pub trait Work {
-    /// The operations of a turn.
-    fn operations(&self) -> usize;
-
-    /// So many turns differ; then they begin again.
+    /// So many turns differ, lest the processor learns one by heart; then they begin again.
     fn cycle(&self) -> usize;
+
+    /// The operations of a turn.
+    fn operations(&self, turn: usize) -> usize;
 
     /// What has to be done before a turn and is not timed.
     fn prepare<S: Side>(&self, _seat: &mut Seat<S>, _turn: usize) {}
@@ -31,12 +31,12 @@ pub struct SingleUpdates {
 }
 
 impl Work for SingleUpdates {
-    fn operations(&self) -> usize {
-        self.batches[0].len()
-    }
-
     fn cycle(&self) -> usize {
         self.batches.len()
+    }
+
+    fn operations(&self, turn: usize) -> usize {
+        self.batches[turn].len()
     }
 
     fn turn<S: Side>(&self, seat: &mut Seat<S>, turn: usize, taker: &mut impl Taker) {
@@ -46,19 +46,19 @@ impl Work for SingleUpdates {
     }
 }
 
-/// An update with one list, to the ledger as it stands or to an empty one.
-pub struct Feed {
-    pub list: Vec<u8>,
+/// Updates with one long list a call, to the ledger as it stands or to an empty one. An operation is one record.
+pub struct Feeds {
+    pub lists: Vec<Vec<u8>>,
     pub from_empty: bool,
 }
 
-impl Work for Feed {
-    fn operations(&self) -> usize {
-        self.list.len() / RECORD
+impl Work for Feeds {
+    fn cycle(&self) -> usize {
+        self.lists.len()
     }
 
-    fn cycle(&self) -> usize {
-        1
+    fn operations(&self, turn: usize) -> usize {
+        self.lists[turn].len() / RECORD
     }
 
     fn prepare<S: Side>(&self, seat: &mut Seat<S>, _turn: usize) {
@@ -67,8 +67,8 @@ impl Work for Feed {
         }
     }
 
-    fn turn<S: Side>(&self, seat: &mut Seat<S>, _turn: usize, taker: &mut impl Taker) {
-        taker.counted(seat.side.update(black_box(&self.list)));
+    fn turn<S: Side>(&self, seat: &mut Seat<S>, turn: usize, taker: &mut impl Taker) {
+        taker.counted(seat.side.update(black_box(&self.lists[turn])));
     }
 }
 
@@ -77,12 +77,12 @@ pub struct Lookups {
 }
 
 impl Work for Lookups {
-    fn operations(&self) -> usize {
-        self.batches[0].len()
-    }
-
     fn cycle(&self) -> usize {
         self.batches.len()
+    }
+
+    fn operations(&self, turn: usize) -> usize {
+        self.batches[turn].len()
     }
 
     fn turn<S: Side>(&self, seat: &mut Seat<S>, turn: usize, taker: &mut impl Taker) {
@@ -99,12 +99,12 @@ pub struct ListLookups {
 }
 
 impl Work for ListLookups {
-    fn operations(&self) -> usize {
-        self.addresses.len() * self.list.len() / RECORD
-    }
-
     fn cycle(&self) -> usize {
         1
+    }
+
+    fn operations(&self, _turn: usize) -> usize {
+        self.addresses.len() * self.list.len() / RECORD
     }
 
     fn turn<S: Side>(&self, _seat: &mut Seat<S>, _turn: usize, taker: &mut impl Taker) {
@@ -117,11 +117,11 @@ impl Work for ListLookups {
 pub struct Write;
 
 impl Work for Write {
-    fn operations(&self) -> usize {
+    fn cycle(&self) -> usize {
         1
     }
 
-    fn cycle(&self) -> usize {
+    fn operations(&self, _turn: usize) -> usize {
         1
     }
 
@@ -137,12 +137,12 @@ pub struct Bursts {
 }
 
 impl Work for Bursts {
-    fn operations(&self) -> usize {
-        1
-    }
-
     fn cycle(&self) -> usize {
         self.bursts.len()
+    }
+
+    fn operations(&self, _turn: usize) -> usize {
+        1
     }
 
     fn prepare<S: Side>(&self, seat: &mut Seat<S>, turn: usize) {
