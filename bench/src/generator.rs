@@ -129,16 +129,7 @@ impl Table {
             Kind::Real => drawing.real(),
         }
         let mut routes = drawing.routes;
-        let (mut fits, mut beyond) = (0, routes.len() + 1);
-        while beyond - fits > 1 {
-            let middle = (fits + beyond) / 2;
-            if slots_needed(&routes[..middle]) <= slots {
-                fits = middle;
-            } else {
-                beyond = middle;
-            }
-        }
-        routes.truncate(fits);
+        routes.truncate(first_that_fit(&routes, slots));
         Table { kind, hops, routes, slots }
     }
 
@@ -166,6 +157,20 @@ pub fn slots_needed(routes: &[Route]) -> usize {
         before = prefix;
     }
     slots
+}
+
+/// How many routes from the first on the slots have room for. More routes never need fewer slots, so halving finds it.
+fn first_that_fit(routes: &[Route], slots: usize) -> usize {
+    let (mut fits, mut beyond) = (0, routes.len() + 1);
+    while beyond - fits > 1 {
+        let middle = (fits + beyond) / 2;
+        if slots_needed(&routes[..middle]) <= slots {
+            fits = middle;
+        } else {
+            beyond = middle;
+        }
+    }
+    fits
 }
 
 pub fn shuffle<T>(items: &mut [T], chance: &mut Chance) {

@@ -12,9 +12,6 @@ use doors::{Counted, Found, Memory};
 use std::hint::black_box;
 use std::time::Instant;
 
-/// Rounds for each work; odd, so that there is a middle one.
-pub const ROUNDS: usize = 301;
-
 pub struct Seats {
     ours: [Seat<Memory>; 2],
     plain: [Seat<Ledger>; 2],
@@ -42,28 +39,37 @@ impl Seats {
         self.plain[0].write().count as usize
     }
 
-    /// Both sides take every turn of a work once, and have to answer and to write the same; then they are timed.
-    pub fn measure(&mut self, work: &impl Work, chance: &mut Chance) -> Measured {
+    /// Both sides take every turn of a work once, and have to answer and to write the same.
+    pub fn agree(&mut self, work: &impl Work) {
         let ours = self.ours.each_mut().map(|seat| answers(work, seat));
         let plain = self.plain.each_mut().map(|seat| answers(work, seat));
         assert!(ours == plain, "both sides answer and write alike");
-        let mut times: [Vec<f64>; 4] = Default::default();
-        for round in 0..ROUNDS {
+    }
+
+    /// So many rounds of a work are timed.
+    pub fn time(&mut self, work: &impl Work, rounds: usize, chance: &mut Chance, times: &mut Times) {
+        for round in 0..rounds {
             let turn = round % work.cycle();
             let mut order = [0, 1, 2, 3];
             shuffle(&mut order, chance);
             for seat in order {
-                times[seat].push(match seat {
-                    0 | 1 => timed(work, &mut self.ours[seat], turn),
-                    _ => timed(work, &mut self.plain[seat - 2], turn),
-                });
+                match seat {
+                    0 | 1 => times.ours[seat].push(timed(work, &mut self.ours[seat], turn)),
+                    _ => times.plain[seat - 2].push(timed(work, &mut self.plain[seat - 2], turn)),
+                }
             }
         }
-        Measured::of(times)
     }
 }
 
-/// Nanoseconds for an operation in each seat, and how many times as long one seat takes as another in the same round.
+/// Nanoseconds for an operation, of each seat in each round.
+#[derive(Default)]
+pub struct Times {
+    ours: [Vec<f64>; 2],
+    plain: [Vec<f64>; 2],
+}
+
+/// What the times say: for an operation in each seat, and how many times as long one seat takes as another in a round.
 pub struct Measured {
     pub ours: [f64; 2],
     pub plain: [f64; 2],
@@ -74,14 +80,14 @@ pub struct Measured {
 }
 
 impl Measured {
-    fn of([ours, ours_again, plain, plain_again]: [Vec<f64>; 4]) -> Measured {
+    pub fn of(Times { ours, plain }: Times) -> Measured {
         let ratios = |of: &[f64], to: &[f64]| -> Vec<f64> { of.iter().zip(to).map(|(a, b)| a / b).collect() };
         Measured {
-            ours_to_plain: Spread::of([ratios(&ours, &plain), ratios(&ours_again, &plain_again)].concat()),
-            ours_again: Spread::of(ratios(&ours_again, &ours)),
-            plain_again: Spread::of(ratios(&plain_again, &plain)),
-            ours: [ours, ours_again].map(|times| Spread::of(times).middle),
-            plain: [plain, plain_again].map(|times| Spread::of(times).middle),
+            ours_to_plain: Spread::of([ratios(&ours[0], &plain[0]), ratios(&ours[1], &plain[1])].concat()),
+            ours_again: Spread::of(ratios(&ours[1], &ours[0])),
+            plain_again: Spread::of(ratios(&plain[1], &plain[0])),
+            ours: ours.map(|times| Spread::of(times).middle),
+            plain: plain.map(|times| Spread::of(times).middle),
         }
     }
 }
