@@ -1,4 +1,4 @@
-//! One table in lent memory, and the works that are measured on it.
+//! A table in lent memory, with others of its kind and size, and the works that are measured on them.
 
 use crate::generator::{slots_needed, Kind, Table};
 use crate::inputs::{feed_of, Inputs};
@@ -6,19 +6,25 @@ use crate::report::{thousands, Section};
 use crate::timing::{Measured, Seats, Times};
 use crate::work::Work;
 use chance::Chance;
+use doors::records::RECORD;
 
 /// Tables, inputs and the order of turns are drawn from this.
 pub const SEED: u64 = 1;
 pub const MOST_SLOTS: usize = 65_536;
 
-pub fn table(kind: Kind, size: usize) -> Table {
-    Table::draw(kind, size, MOST_SLOTS, &mut Chance::new(SEED))
+/// So many tables of a kind and size: writes and whole feeds cycle through them.
+const TABLES: usize = 16;
+
+pub fn tables(kind: Kind, size: usize) -> Vec<Table> {
+    let mut chance = Chance::new(SEED);
+    (0..TABLES).map(|_| Table::draw(kind, size, MOST_SLOTS, &mut chance)).collect()
 }
 
 pub struct Bench {
     name: String,
-    table: Table,
-    /// The routes that the table would have if there were slots enough.
+    /// The first is held where a work does not say otherwise.
+    tables: Vec<Table>,
+    /// The routes that a table would have if there were slots enough.
     wanted: usize,
     feed: Vec<u8>,
     seats: Seats,
@@ -36,17 +42,18 @@ struct Row {
 
 impl Bench {
     /// The first seats of both sides get so many slots, the second ones so many. Works without the word are left out.
-    pub fn new(name: String, table: Table, wanted: usize, slots: [usize; 2], word: &str) -> Bench {
-        let feed = feed_of(&table.routes);
-        let seats = Seats::new(slots, feed.len());
+    pub fn new(name: String, tables: Vec<Table>, wanted: usize, slots: [usize; 2], word: &str) -> Bench {
+        let feed = feed_of(&tables[0].routes);
+        let seats = Seats::new(slots, wanted * RECORD);
         let (chance, word) = (Chance::new(SEED), word.to_string());
-        Bench { name, table, wanted, feed, seats, chance, word, rows: Vec::new() }
+        Bench { name, tables, wanted, feed, seats, chance, word, rows: Vec::new() }
     }
 
     /// A work is taken up, once both sides have been seen to agree on it.
     pub fn row<W: Work + 'static>(&mut self, name: &'static str, work: impl Fn(&mut Inputs) -> W) {
         if name.contains(&self.word) {
-            let work = work(&mut Inputs { table: &self.table, chance: &mut Chance::new(SEED) });
+            let (table, tables) = (&self.tables[0], &self.tables[..]);
+            let work = work(&mut Inputs { table, tables, chance: &mut Chance::new(SEED) });
             self.seats.load(&self.feed);
             self.seats.agree(&work);
             let time = Box::new(move |seats: &mut Seats, rounds, chance: &mut Chance, times: &mut Times| {
@@ -66,7 +73,7 @@ impl Bench {
     pub fn section(mut self) -> Section {
         self.seats.load(&self.feed);
         let written = self.seats.count_written();
-        let routes = self.table.routes.len();
+        let routes = self.tables[0].routes.len();
         let fewer = if routes < self.wanted {
             format!(" ({} were wanted; {} slots have no room for more)", thousands(self.wanted), thousands(MOST_SLOTS))
         } else {
@@ -75,7 +82,7 @@ impl Bench {
         let about = format!(
             "{} routes{fewer} need {} slots; the smallest table has {} ({:.0}%).",
             thousands(routes),
-            thousands(slots_needed(&self.table.routes)),
+            thousands(slots_needed(&self.tables[0].routes)),
             thousands(written),
             100.0 * written as f64 / routes as f64,
         );

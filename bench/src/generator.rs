@@ -113,8 +113,6 @@ pub struct Table {
     pub hops: Hops,
     /// The default route first, then as the kind draws them; no prefix twice.
     pub routes: Vec<Route>,
-    /// What it was drawn to fit into.
-    slots: usize,
 }
 
 impl Table {
@@ -130,12 +128,7 @@ impl Table {
         }
         let mut routes = drawing.routes;
         routes.truncate(first_that_fit(&routes, slots));
-        Table { kind, hops, routes, slots }
-    }
-
-    /// A table of the same kind and, as far as the slots have room, size.
-    pub fn another(&self, chance: &mut Chance) -> Table {
-        Table::draw(self.kind, self.routes.len(), self.slots, chance)
+        Table { kind, hops, routes }
     }
 
     /// The routes but the default, which is always held.

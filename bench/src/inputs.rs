@@ -1,22 +1,24 @@
-//! The inputs that works are given, drawn from a table.
+//! The inputs that works are given, drawn from tables.
 
 use crate::bursts;
 use crate::generator::{Prefix, Route, Table};
-use crate::work::{Bursts, Feeds, ListLookups, Lookups, SingleUpdates};
+use crate::work::{Feeds, ListLookups, Lookups, SingleUpdates, Writes, Writing};
 use chance::Chance;
 use doors::records::{Fields, RECORD};
 
 /// Operations of a turn: enough to be timed well, few enough to be seldom interrupted.
 const BATCH: usize = 2_048;
-/// Batches of a work, or tables of one kind and size.
+/// Batches of a work.
 const BATCHES: usize = 16;
 /// Records of a list that a turn of list lookups goes through, about.
 const LIST_RECORDS: usize = 65_536;
-/// Bursts, one after the other, before the table is loaded anew.
-const BURSTS: usize = 64;
+/// Bursts that a table has been through before the one that is timed, so that there are routes to return.
+const EARLIER_BURSTS: usize = 7;
 
 pub struct Inputs<'a> {
+    /// The table that is held, and where a work cycles through tables, the others of its kind and size.
     pub table: &'a Table,
+    pub tables: &'a [Table],
     pub chance: &'a mut Chance,
 }
 
@@ -66,10 +68,8 @@ impl Inputs<'_> {
         Feeds { lists: self.hop_changes().batches.iter().map(|batch| batch.concat()).collect(), from_empty: false }
     }
 
-    /// Tables like this one, each in one list.
-    pub fn whole_tables(&mut self) -> Feeds {
-        let lists = (0..BATCHES).map(|_| feed_of(&self.table.another(self.chance).routes)).collect();
-        Feeds { lists, from_empty: true }
+    pub fn whole_tables(&self) -> Feeds {
+        Feeds { lists: self.tables.iter().map(|table| feed_of(&table.routes)).collect(), from_empty: true }
     }
 
     pub fn any_addresses(&mut self) -> Lookups {
@@ -92,8 +92,18 @@ impl Inputs<'_> {
         ListLookups { list, addresses }
     }
 
-    pub fn bursts(&mut self, size: usize) -> Bursts {
-        Bursts { feed: feed_of(&self.table.routes), bursts: bursts::draw(self.table, size, BURSTS, self.chance) }
+    pub fn writes(&self) -> Writes {
+        let writing = |table: &Table| Writing { feed: feed_of(&table.routes), burst: None };
+        Writes { writings: self.tables.iter().map(writing).collect() }
+    }
+
+    pub fn bursts(&mut self, size: usize) -> Writes {
+        let writing = |table: &Table| {
+            let mut bursts = bursts::draw(table, size, EARLIER_BURSTS + 1, self.chance);
+            let burst = bursts.pop();
+            Writing { feed: feed_of(&table.routes).into_iter().chain(bursts.concat()).collect(), burst }
+        };
+        Writes { writings: self.tables.iter().map(writing).collect() }
     }
 
     /// An announcement that needs one slot more than the table does: one bit more behind a route with nothing below it.

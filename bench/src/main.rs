@@ -13,11 +13,10 @@ mod side;
 mod timing;
 mod work;
 
-use bench::{table, Bench, MOST_SLOTS, SEED};
+use bench::{tables, Bench, MOST_SLOTS, SEED};
 use chance::Chance;
 use generator::{slots_needed, Kind};
 use report::{print_section, print_slots, print_summary, print_times, thousands, Section};
-use work::Write;
 
 const SIZES: [usize; 3] = [1_000, 5_000, 20_000];
 const FEW_SLOTS: usize = 4_096;
@@ -25,11 +24,11 @@ const FEW_SLOTS: usize = 4_096;
 /// Everything is measured so many times over, so that no number hangs on what else the machine did in one second;
 const PASSES: usize = 5;
 /// and in each pass a work has so many rounds.
-const ROUNDS: usize = 61;
+const ROUNDS: usize = 41;
 
 fn main() {
     let word = std::env::args().nth(1).unwrap_or_default();
-    agreement::check(&table(Kind::Uniform, SIZES[0]).routes, &mut Chance::new(SEED));
+    agreement::check(&tables(Kind::Uniform, SIZES[0])[0].routes, &mut Chance::new(SEED));
     let kinds = [Kind::Real, Kind::Uniform].into_iter();
     let mut tables: Vec<Bench> = kinds
         .flat_map(|kind| SIZES.map(|size| (kind, size)))
@@ -56,9 +55,9 @@ fn main() {
 }
 
 fn everything(kind: Kind, size: usize, word: &str) -> Bench {
-    let table = table(kind, size);
-    let name = format!("{} {}", kind.name(), thousands(table.routes.len()));
-    let mut bench = Bench::new(name, table, size, [MOST_SLOTS; 2], word);
+    let tables = tables(kind, size);
+    let name = format!("{} {}", kind.name(), thousands(tables[0].routes.len()));
+    let mut bench = Bench::new(name, tables, size, [MOST_SLOTS; 2], word);
     bench.row("hop change, one record a call", |inputs| inputs.hop_changes());
     bench.row("withdraw or announce, one record a call", |inputs| inputs.withdrawals_and_announcements());
     bench.row("hop change, in one list", |inputs| inputs.hop_changes_in_one_list());
@@ -66,7 +65,7 @@ fn everything(kind: Kind, size: usize, word: &str) -> Bench {
     bench.row("ledger lookup, any address", |inputs| inputs.any_addresses());
     bench.row("ledger lookup, inside a route", |inputs| inputs.addresses_inside());
     bench.row("list lookup, a record of the list", |inputs| inputs.list_lookups());
-    bench.row("write", |_| Write);
+    bench.row("write", |inputs| inputs.writes());
     bench.row("burst of 1, then a write", |inputs| inputs.bursts(1));
     bench.row("burst of 10, then a write", |inputs| inputs.bursts(10));
     bench.row("burst of 100, then a write", |inputs| inputs.bursts(100));
@@ -76,18 +75,18 @@ fn everything(kind: Kind, size: usize, word: &str) -> Bench {
 /// The first seats have few slots, the second ones many.
 fn few_and_many_slots(word: &str) -> Bench {
     let size = SIZES[0];
-    let mut bench = Bench::new(String::new(), table(Kind::Real, size), size, [FEW_SLOTS, MOST_SLOTS], word);
+    let mut bench = Bench::new(String::new(), tables(Kind::Real, size), size, [FEW_SLOTS, MOST_SLOTS], word);
     bench.row("hop change, one record a call", |inputs| inputs.hop_changes());
     bench.row("withdraw or announce, one record a call", |inputs| inputs.withdrawals_and_announcements());
     bench.row("ledger lookup, inside a route", |inputs| inputs.addresses_inside());
-    bench.row("write", |_| Write);
+    bench.row("write", |inputs| inputs.writes());
     bench
 }
 
 fn full_memory(size: usize, word: &str) -> Bench {
-    let table = table(Kind::Real, size);
-    let slots = slots_needed(&table.routes);
-    let mut bench = Bench::new(thousands(slots), table, size, [slots; 2], word);
+    let tables = tables(Kind::Real, size);
+    let slots = slots_needed(&tables[0].routes);
+    let mut bench = Bench::new(thousands(slots), tables, size, [slots; 2], word);
     bench.row("announce, refused", |inputs| inputs.one_slot_more());
     bench
 }

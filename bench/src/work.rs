@@ -114,31 +114,20 @@ impl Work for ListLookups {
     }
 }
 
-pub struct Write;
-
-impl Work for Write {
-    fn cycle(&self) -> usize {
-        1
-    }
-
-    fn operations(&self, _turn: usize) -> usize {
-        1
-    }
-
-    fn turn<S: Side>(&self, seat: &mut Seat<S>, _turn: usize, taker: &mut impl Taker) {
-        write(seat, taker);
-    }
+/// A write of the ledger that a feed made, after a burst of updates in one list or without one. Burst and write are
+/// timed, and are one operation.
+pub struct Writes {
+    pub writings: Vec<Writing>,
 }
 
-/// A burst of updates in one list, then a write. An operation is both together.
-pub struct Bursts {
+pub struct Writing {
     pub feed: Vec<u8>,
-    pub bursts: Vec<Vec<u8>>,
+    pub burst: Option<Vec<u8>>,
 }
 
-impl Work for Bursts {
+impl Work for Writes {
     fn cycle(&self) -> usize {
-        self.bursts.len()
+        self.writings.len()
     }
 
     fn operations(&self, _turn: usize) -> usize {
@@ -146,19 +135,15 @@ impl Work for Bursts {
     }
 
     fn prepare<S: Side>(&self, seat: &mut Seat<S>, turn: usize) {
-        if turn == 0 {
-            seat.side.empty();
-            seat.side.update(&self.feed);
-        }
+        seat.side.empty();
+        seat.side.update(&self.writings[turn].feed);
     }
 
     fn turn<S: Side>(&self, seat: &mut Seat<S>, turn: usize, taker: &mut impl Taker) {
-        taker.counted(seat.side.update(black_box(&self.bursts[turn])));
-        write(seat, taker);
+        if let Some(burst) = &self.writings[turn].burst {
+            taker.counted(seat.side.update(black_box(burst)));
+        }
+        let answer = black_box(&mut *seat).write();
+        taker.written(answer, &seat.scratch, &seat.out);
     }
-}
-
-fn write<S: Side>(seat: &mut Seat<S>, taker: &mut impl Taker) {
-    let answer = black_box(&mut *seat).write();
-    taker.written(answer, &seat.scratch, &seat.out);
 }
