@@ -62,10 +62,8 @@ pub fn child_of(lo: &[u32], hi: &[u32], up: &[u32], slot: usize, right: bool) ->
     ensures { λ r. ⌜ r ≡ child (treeOf (now (lo .entry)) (now (hi .entry)) (now (up .entry))) right slot ⌝ }
 {
     let next = link_of(lo, hi, slot, right);
-    if next == 0 {
-        return up.len();
-    }
-    if next >= up.len() {
+    // Links count from slot 1 on. Counted from there 0 wraps to a number behind all slots: one test for both ends.
+    if std::num::wrapping_sub_usize(next, 1) >= up.len() - 1 {
         return up.len();
     }
     if wide(up[next]) != mark_of(slot, right) {
