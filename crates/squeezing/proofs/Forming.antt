@@ -1,6 +1,6 @@
 -- Forming the sets: what a call leaves in the scratch at what is no slot, at a full string and at a string with two children,
 -- and that the number of splits never outgrows the slots.
-use mathlib.Core.Path.{_≡_, refl, sym, ap, ap₂, subst, _∙_}
+use mathlib.Core.Path.{_≡_, refl, sym, ap, ap₂, subst, subst₂, _∙_}
 use mathlib.Core.Bool.{Bool, true, false, cond, not}
 use mathlib.Core.List.{List, [], _∷_, _++_, reverse, reverse-reverse}
 use mathlib.Core.Option.{Option, none, some}
@@ -53,16 +53,15 @@ module _ (m : Memory) where
       stored-none a w (child (m .tree) true p) (inForce m p d) (omega (arith, none-below (m .tree) (whole .shaped) true p l)),
     )
 
-    -- WHAT IS NO SLOT is answered without a look: one hop throughout
-    pub form-none : (a : List ℕ) (p w d : ℕ) (r : Formed) → MayAnnounce d → n ≤ p → members (r .set) ≡ only d → r .splits ≡ 0
-        → Forms m a p w d a r
-    form-none a p w d r real l is none-split = record {
-      set = is ∙ sym (set-none m whole w p d l);
-      splits = none-split ∙ sym (ap (splits hopBound w) (leaves-none m whole w p d l) ∙ splits-throughout hopBound w (only d) (only-allowed hopBound d (omega (arith, real .1)) .member));
-      stored = stored-none a w p d l;
-      others = λ k h. refl;
-      same-length = refl;
-    }
+  -- WHAT IS NO SLOT is answered without a look: one hop throughout
+  pub form-none : {a : List ℕ} {p w d : ℕ} {r : Formed} → CanForm m a p d → n ≤ p → (members (r .set) ≡ only d) × (r .splits ≡ 0) → Forms m a p w d a r
+  form-none {a} {p} {w} {d} can l is = record {
+    set = is .0 ∙ sym (set-none m (can .whole) w p d l);
+    splits = is .1 ∙ sym (ap (splits hopBound w) (leaves-none m (can .whole) w p d l) ∙ splits-throughout hopBound w (only d) (only-allowed hopBound d (omega (arith, can .hop .1)) .member));
+    stored = stored-none (can .whole) a w p d l;
+    others = λ k h. refl;
+    same-length = refl;
+  }
 
   -- A FULL STRING has the set of its one hop
   pub form-full : (a b : List ℕ) (p d : ℕ) (r : Formed) → Keeps a p (r .set) b → members (r .set) ≡ only (inForce m p d) → r .splits ≡ 0
@@ -161,10 +160,14 @@ forms-at : (m : Memory) (a b : List ℕ) (r : Formed) {p p' w w' d d' : ℕ} →
 forms-at m a b r {p' = p'} {w = w} {w' = w'} {d = d} i j k f =
     subst (λ z. Forms m a p' w' z b r) k (subst (λ z. Forms m a p' z d b r) j (subst (λ z. Forms m a z w d b r) i f))
 
+-- where the two ways of a child meet, asked for or answered at once: the scratch and the answer are those of the way taken
+pub forms-came : {m : Memory} {a b c : List ℕ} {p w d : ℕ} {q r : Formed} → c ≡ b → q ≡ r → Forms m a p w d b r → Forms m a p w d c q
+forms-came {m} {a} {p = p} {w = w} {d = d} same is f = subst₂ (Forms m a p w d) (sym same) (sym is) f
+
 pub form-full-at : (m : Memory) (a b : List ℕ) (p left d e : ℕ) (r : Formed) → Keeps a p (r .set) b → left ≡ 0 → e ≡ inForce m p d
-    → members (r .set) ≡ only e → r .splits ≡ 0 → Forms m a p left d b r
-form-full-at m a b p left d e r keeps full here is none-split =
-    forms-at m a b r refl (sym full) refl (form-full m a b p d r keeps (is ∙ ap only here) none-split)
+    → (members (r .set) ≡ only e) × (r .splits ≡ 0) → Forms m a p left d b r
+form-full-at m a b p left d e r keeps full here is =
+    forms-at m a b r refl (sym full) refl (form-full m a b p d r keeps (is .0 ∙ ap only here) (is .1))
 
 -- have two sets a hop in common?
 abbrev pub met : HopSet → HopSet → Bool

@@ -6,7 +6,7 @@ use mathlib.Core.List.{List, [], _∷_, _++_}
 use mathlib.Core.Logic.{inl, inr}
 use Prim.Native.Nat.{ℕ, zero, suc, _-_, _≤_, _<_}
 use native.Mathlib.Omega.{arith}
-use Rattle.theory.specs.Bits.{prefixOf}
+use Rattle.theory.specs.Bits.{Bits, prefixOf}
 use Rattle.theory.specs.Hops.{Hops, Allowed, only}
 use Rattle.theory.specs.Ledger.{Entry}
 use Rattle.theory.specs.Smallest.{Leaves, entry, choose, under, here, table}
@@ -70,13 +70,21 @@ stored-own : (m : Memory) (a : List ℕ) (w p d : ℕ) → Stored m a w p d → 
 stored-own m a zero p d x = x
 stored-own m a (suc w) p d x = x .0
 
+none-set : {m : Memory} {a : List ℕ} {k p w d c at : ℕ} {path : Path} {output : List ℕ} (x : HopSet) → CanWrite m a k p w d c at path output
+    → slots (m .tree) ≤ p → members x ≡ only d → members x ≡ setBelow w m p d
+none-set {m} {p = p} {w = w} {d = d} x can l is = is ∙ sym (set-none m (can .can .whole) w p d l)
+
 pub the-set : (m : Memory) (a : List ℕ) (k p w d c at : ℕ) (path : Path) (output : List ℕ) (x : HopSet) → CanWrite m a k p w d c at path output
     → (p < slots (m .tree) → members x ≡ setIn a p) → (slots (m .tree) ≤ p → members x ≡ only d) → members x ≡ setBelow w m p d
 the-set m a k p w d c at path output x can there beyond =
     elim (below-or p (slots (m .tree))) [
       | inl l ↦ there l ∙ stored-own m a w p d (can .stored) l
-      | inr l ↦ beyond l ∙ sym (set-none m (can .can .whole) w p d l)
+      | inr l ↦ none-set x can l (beyond l)
     ]
+
+-- where the two ways of a child meet, written or entered at once: the place and the output are those of the way taken
+pub puts-came : {k : ℕ} {s : Bits} {T : List Entry} {at x y : ℕ} {out a b : List ℕ} → b ≡ a → y ≡ x → Puts k s T at out x a → Puts k s T at out y b
+puts-came {k} {s} {T} {at} {out = out} same is puts = subst₂ (Puts k s T at out) (sym is) (sym same) puts
 
 pub one-more : (left : ℕ) → (left ≡ 0 → ⊥) → left ≡ suc (left - 1)
 one-more left some-left = omega (arith, not-none left some-left)
@@ -98,6 +106,10 @@ module _ (m : Memory) (a : List ℕ) (k p d c at : ℕ) (x : HopSet) (path : Pat
     room = subst (λ y. Room k at (here (entryOf y c)) output) (sym is) (own-room m k w p d c at output (can .room));
   }
 
+  pub can-enter-none : (w : ℕ) → CanWrite m a k p w d c at path output → slots (m .tree) ≤ p → members x ≡ only d
+      → CanEnter k w path x c at output × (c ≤ highestHop)
+  can-enter-none w can l is = (can-enter w can (none-set x can l is), can .chosen)
+
   module _ (out₁ : List ℕ) (r : Standing) where
     -- WHAT IS NO SLOT and A FULL STRING have no more than that
     leaf : (w : ℕ) → tableBelow w m p d c ≡ here (entryOf (setBelow w m p d) c) → members x ≡ setBelow w m p d
@@ -105,9 +117,9 @@ module _ (m : Memory) (a : List ℕ) (k p d c at : ℕ) (x : HopSet) (path : Pat
     leaf w only-own is entered =
         subst (λ T. Puts k (stringOf k w path) T at output (r .at) out₁) (ap (λ y. here (entryOf y c)) is ∙ sym only-own) (entered .puts)
 
-    pub puts-none : (w : ℕ) → CanWrite m a k p w d c at path output → slots (m .tree) ≤ p → members x ≡ setBelow w m p d
+    pub puts-none : (w : ℕ) → CanWrite m a k p w d c at path output → slots (m .tree) ≤ p → members x ≡ only d
         → Enters k w path x c at output out₁ r → Puts k (stringOf k w path) (tableBelow w m p d c) at output (r .at) out₁
-    puts-none w can l is entered = leaf w (table-none m (can .can .whole) w p d c (can .can .hop) l) is entered
+    puts-none w can l is entered = leaf w (table-none m (can .can .whole) w p d c (can .can .hop) l) (none-set x can l is) entered
 
     pub puts-full : (w : ℕ) → CanWrite m a k p w d c at path output → w ≡ 0 → members x ≡ setBelow w m p d
         → Enters k w path x c at output out₁ r → Puts k (stringOf k w path) (tableBelow w m p d c) at output (r .at) out₁

@@ -1,5 +1,5 @@
 // The smallest table of what lent memory holds: sets upward, entries downward. A walk down uses up one of the address's
-// bits that are left, so both end; what is no slot is answered at the top, so both sides are called without a test.
+// bits that are left, so both end. Half of all children are no slot: they are answered on the spot, for a call costs more.
 ghost use mathlib.Core.Path.{_≡_};
 ghost use Prim.Native.Nat.{_<_, _≤_};
 ghost use Rattle.theory.specs.Hops.{only};
@@ -17,6 +17,17 @@ use sets::HopSet;
 pub struct Formed {
     pub set: HopSet,
     pub splits: usize,
+}
+
+// What a full string has, and what is no slot: one hop throughout.
+fn throughout(hop: u32) -> Formed
+    requires { ⌜ MayAnnounce hop ⌝ }
+    ensures { λ r. ⌜ (members (r .set) ≡ only hop) × (r .splits ≡ 0) ⌝ }
+{
+    Formed {
+        set: sets::only(hop),
+        splits: 0,
+    }
 }
 
 // 1 where two sets have no hop in common, else 0: one entry more is needed below.
@@ -44,40 +55,26 @@ pub fn form_sets(
     ensures { λ r. ⌜ Forms (memoryOf (now (lo .entry)) (now (hi .entry)) (now (up .entry)) (now (hop .entry))) (now (scratch .entry)) slot left above (now (scratch .exit)) r ⌝ }
 {
     if slot >= up.len() {
-        return Formed {
-            set: sets::only(above),
-            splits: 0,
-        };
+        return throughout(above);
     }
     let here = memory::hop_or(hop[slot], above);
-    let own = sets::only(here);
+    let own = throughout(here);
     if left == 0 {
-        sets::keep(scratch, slot, own);
-        return Formed {
-            set: own,
-            splits: 0,
-        };
+        sets::keep(scratch, slot, own.set);
+        return own;
     }
-    let zero = form_sets(
-        lo,
-        hi,
-        up,
-        hop,
-        scratch,
-        memory::child_of(lo, hi, up, slot, false),
-        left - 1,
-        here,
-    );
-    let one = form_sets(
-        lo,
-        hi,
-        up,
-        hop,
-        scratch,
-        memory::child_of(lo, hi, up, slot, true),
-        left - 1,
-        here,
-    );
+    let low = memory::child_of(lo, hi, up, slot, false);
+    let zero = if low < up.len() {
+        form_sets(lo, hi, up, hop, scratch, low, left - 1, here)
+    } else {
+        own
+    };
+    let high = memory::child_of(lo, hi, up, slot, true);
+    let one = if high < up.len() {
+        form_sets(lo, hi, up, hop, scratch, high, left - 1, here)
+    } else {
+        own
+    };
     let set = sets::join(zero.set, one.set);
     sets::keep(scratch, slot, set);
     Formed {
@@ -164,35 +161,46 @@ pub fn write_entries(
         return here.at;
     }
     let held = memory::hop_or(hop[slot], above);
-    let middle = write_entries(
-        lo,
-        hi,
-        up,
-        hop,
-        scratch,
-        output,
-        memory::child_of(lo, hi, up, slot, false),
-        left - 1,
-        held,
-        here.hop,
-        path,
-        bytes,
-        here.at,
-    );
+    let own = sets::only(held);
+    let low = memory::child_of(lo, hi, up, slot, false);
+    let middle = if low < up.len() {
+        write_entries(
+            lo,
+            hi,
+            up,
+            hop,
+            scratch,
+            output,
+            low,
+            left - 1,
+            held,
+            here.hop,
+            path,
+            bytes,
+            here.at,
+        )
+    } else {
+        enter(output, here.at, bytes, path, left - 1, own, here.hop).at
+    };
     let right = printing::set_bit(path, 8 * bytes - left);
-    write_entries(
-        lo,
-        hi,
-        up,
-        hop,
-        scratch,
-        output,
-        memory::child_of(lo, hi, up, slot, true),
-        left - 1,
-        held,
-        here.hop,
-        right,
-        bytes,
-        middle,
-    )
+    let high = memory::child_of(lo, hi, up, slot, true);
+    if high < up.len() {
+        write_entries(
+            lo,
+            hi,
+            up,
+            hop,
+            scratch,
+            output,
+            high,
+            left - 1,
+            held,
+            here.hop,
+            right,
+            bytes,
+            middle,
+        )
+    } else {
+        enter(output, middle, bytes, right, left - 1, own, here.hop).at
+    }
 }
