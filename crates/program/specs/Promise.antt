@@ -42,6 +42,7 @@ pub record Stands (bytes output output' : List ℕ) (r : ℕ) : Type 0 where
 pub record Answers (input output output' : List ℕ) (r : ℕ) : Type 0 where
   pub stands : mostInput ≤ length output → Stands (writesFor input) output output' r
   pub no-room : length output < mostInput → (r ≡ 0) × (output' ≡ output)
+  -- (which follows: what is to be written out lies within the output)
   pub within : r ≤ length output'
 
 -- the step inside
