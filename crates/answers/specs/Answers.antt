@@ -25,11 +25,17 @@ abbrev pub countFor : Option ℕ → ℕ → CountAnswer
 countFor refusal count = record { number = numberOf refusal; count = count }
 
 -- THE STRUCTS FOR THE ENUMS; of a writing the answer alone, without what it leaves
+abbrev pub updatedFor : Updated → CountAnswer
+updatedFor u = countFor (reportOf u .refusal) (reportOf u .count)
+
+abbrev pub wroteFor : Wrote → CountAnswer
+wroteFor w = countFor (outcomeOf w [] [] .refusal) (outcomeOf w [] [] .count)
+
 pub record FoundSo (answer : Found) (r : FoundAnswer) : Type 0 where
   pub told : r ≡ foundFor (answerOf answer)
 
 pub record UpdatedSo (answer : Updated) (r : CountAnswer) : Type 0 where
-  pub told : r ≡ countFor (reportOf answer .refusal) (reportOf answer .count)
+  pub told : r ≡ updatedFor answer
 
 pub record WroteSo (answer : Wrote) (r : CountAnswer) : Type 0 where
-  pub told : r ≡ countFor (outcomeOf answer [] [] .refusal) (outcomeOf answer [] [] .count)
+  pub told : r ≡ wroteFor answer

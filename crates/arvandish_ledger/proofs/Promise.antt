@@ -1,6 +1,6 @@
 -- The ledger door's promises fix what the calls' do: the struct, and what is left.
 use mathlib.Core.Path.{_≡_, sym, ap, _∙_}
-use mathlib.Core.List.{List, []}
+use mathlib.Core.List.{List}
 use mathlib.Core.Option.{none, some}
 use Prim.Native.Nat.{ℕ}
 use Rattle.rules.specs.Numbers.{ipv4, width, noSlots}
@@ -8,13 +8,12 @@ use Rattle.memory.specs.Layout.{Memory, ledgerOf}
 use Rattle.memory.specs.Tidy.{Tidy, SameButSlots}
 use Rattle.lent.specs.Lent.{lentFault}
 use Rattle.lists.specs.Promise.{answerOf}
-use Rattle.ledger.specs.Promise.{updateOf, reportOf}
+use Rattle.ledger.specs.Promise.{updateOf}
 use Rattle.ledger.proofs.Promise as ledger
-use Rattle.writing.specs.Promise.{outcomeOf}
 use Rattle.writing.proofs.Promise as writing
 use Rattle.answers.specs.declared.FoundAnswer.{FoundAnswer}
 use Rattle.answers.specs.declared.CountAnswer.{CountAnswer}
-use Rattle.answers.specs.Answers.{foundFor, countFor}
+use Rattle.answers.specs.Answers.{foundFor, updatedFor, wroteFor}
 use Rattle.arvandish_ledger.specs.Promise.{UpdatesToC, LooksUpToC, WritesToC}
 
 -- UPDATE: the struct, the ledger that is left in any memory, every element where nothing was applied, and in tidy memory every element
@@ -23,7 +22,7 @@ module _ (m a b : Memory) (list : List ℕ) (r s : CountAnswer) (one : UpdatesTo
   pub one-update : r ≡ s
   one-update =
       one .told .told
-      ∙ ap (λ u. countFor (reportOf u .refusal) (reportOf u .count)) (ledger.one-update m a b list (one .answer) (other .answer) (one .meets) (other .meets))
+      ∙ ap updatedFor (ledger.one-update m a b list (one .answer) (other .answer) (one .meets) (other .meets))
       ∙ sym (other .told .told)
 
   pub one-ledger : ledgerOf (width ipv4) a ≡ ledgerOf (width ipv4) b
@@ -47,7 +46,7 @@ pub one-write : (m : Memory) (scratch output s₁ o₁ s₂ o₂ : List ℕ) (r 
     → WritesToC m scratch output s₁ o₁ r → WritesToC m scratch output s₂ o₂ s → (r ≡ s) × (s₁ ≡ s₂) × (o₁ ≡ o₂)
 one-write m scratch output s₁ o₁ s₂ o₂ r s one other =
     let same = writing.one-answer m scratch output s₁ o₁ s₂ o₂ (one .answer) (other .answer) (one .meets) (other .meets) in (
-      one .told .told ∙ ap (λ w. countFor (outcomeOf w [] [] .refusal) (outcomeOf w [] [] .count)) (same .0) ∙ sym (other .told .told),
+      one .told .told ∙ ap wroteFor (same .0) ∙ sym (other .told .told),
       same .1,
       same .2,
     )
