@@ -1,11 +1,12 @@
 //! Tables to measure on, the same on every machine for one seed. Two kinds: *uniform*, prefixes drawn evenly, which
 //! barely compress; and *real*, allocations and their more-specifics laid out as operators announce them.
 
+use crate::plain::HIGHEST_HOP;
 use chance::Chance;
 use std::collections::BTreeSet;
 
 /// The hops that routes are given: 1 to this.
-pub const HOPS: u64 = 64;
+pub const HOPS: u64 = HIGHEST_HOP as u64;
 
 #[derive(Clone, Copy, Debug, PartialEq, Eq, PartialOrd, Ord)]
 pub struct Prefix {

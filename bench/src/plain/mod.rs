@@ -13,6 +13,7 @@ use doors::records::RECORD;
 use doors::{Counted, Found};
 
 pub use list::lookup as lookup_list;
+pub use record::HIGHEST_HOP;
 use record::{Change, Prefix};
 
 /// The number of the node of the empty prefix. No link leads to it, so as a link it says that there is no child.

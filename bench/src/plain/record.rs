@@ -3,7 +3,9 @@
 use super::refusal;
 use doors::records::{Fields, ANNOUNCE, RECORD, WITHDRAW};
 
-const HOPS: std::ops::RangeInclusive<u16> = 1..=64;
+/// The hops that may be announced are 1 to this.
+pub const HIGHEST_HOP: u16 = 64;
+const HOPS: std::ops::RangeInclusive<u16> = 1..=HIGHEST_HOP;
 
 /// For each length that a prefix may have, its highest bits.
 const MASKS: [u32; 33] = {

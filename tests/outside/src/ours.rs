@@ -4,6 +4,7 @@
 
 use crate::feeds::bytes;
 use crate::layout;
+use crate::plain::HIGHEST_HOP;
 use doors::records::{Fields, RECORD};
 use doors::{Counted, Found, Memory};
 
@@ -169,7 +170,7 @@ fn damage_written(fault: Fault, before: &[u8], output: &mut [u8], answer: Counte
     let end = if answer.number == 0 { RECORD * answer.count as usize } else { 0 };
     let counted = |count| Counted { count, ..answer };
     match (fault, answer.number) {
-        (Fault::Hop, 0) => output[end - 1] = output[end - 1] % 64 + 1,
+        (Fault::Hop, 0) => output[end - 1] = output[end - 1] % HIGHEST_HOP as u8 + 1,
         (Fault::Drop, 0) => {
             output[end - RECORD..end].copy_from_slice(&before[end - RECORD..end]);
             return counted(answer.count - 1);
