@@ -14,9 +14,10 @@ use Rattle.theory.proofs.Walk.{front-length}
 use Rattle.rules.specs.Plain.{needs}
 use Rattle.memory.specs.Path.{pathBits}
 use Rattle.memory.specs.Layout.{Memory, slots, Shaped, find, readHop, hopAt, ledgerOf}
+use Rattle.memory.specs.Reach.{Reaches}
 use Rattle.memory.proofs.Ledger.{hop-low, hop-stored, ledger-front, no-hop}
 use Rattle.editing.specs.Edits.{rehop}
-use Rattle.editing.specs.Routes.{CanWithdraw, CanAnnounce, OnPath, Reaches, AtEnd, Reworked, Extended, Stuck, Step, Announced, Withdrawn}
+use Rattle.editing.specs.Routes.{CanWithdraw, CanAnnounce, OnPath, AtEnd, Reworked, Extended, Stuck, Step, Announced, Withdrawn}
 use Rattle.editing.proofs.Setting.{rehop-kept, rehop-announce, rehop-withdraw, rehop-tidy, rehop-done, tidy-but}
 use Rattle.editing.proofs.Exhausting.{needs-more, front-more}
 use Rattle.editing.proofs.Walking.{kept-self, kept-then, reworked-then}

@@ -10,12 +10,12 @@ use native.Mathlib.Numerals.{add-one, sub-one}
 use lib.ListN.{length, getD}
 use Rattle.theory.specs.Bits.{front}
 use Rattle.theory.proofs.Walk.{front-length}
-use Rattle.memory.specs.Layout.{Tree, Memory, slots, Whole, child, find}
+use Rattle.memory.specs.Layout.{Memory, slots, Whole, child, find}
 use Rattle.memory.specs.Tidy.{bare}
-use Rattle.memory.proofs.Find.{Counts, mark-positive, child-le, counts-of, parent-below, one-string}
+use Rattle.memory.proofs.Find.{Counts, mark-positive, counts-of, parent-below, one-string}
 use Rattle.editing.specs.Spare.{Spared, SpareFor}
 use Rattle.editing.specs.Edits.{CanEdit, Kept, Hung, Dropped}
-use Rattle.editing.specs.Routes.{OnPath, Reaches, AtEnd, Reworked, Extended, Stuck}
+use Rattle.editing.specs.Routes.{OnPath, AtEnd, Reworked, Extended, Stuck}
 use Rattle.editing.proofs.Rising.{parent-mark}
 use Rattle.editing.proofs.Hanging.{no-new-child, hung-ledger, hung-there, hung-tidy}
 use Rattle.editing.proofs.Dropping.{dropped-ledger, parent-kept, dropped-tidy, tip-done}
@@ -39,19 +39,6 @@ reworked-then w a b c x y z p q = record {
   same-ledger = q .same-ledger ∙ p .same-ledger;
   tidied = λ t. q .tidied (p .tidied t);
 }
-
--- HOW FAR A PATH HAS SLOTS: to where a bit leads nowhere, or through all of it
-module _ (t : Tree) (f : ℕ → Bool) (size d slot : ℕ) (short : d ≤ size) (below : slot < slots t) (there : slot ≡ find t (front f d)) where
-  pub stops-short : (right : Bool) (next : ℕ) → right ≡ f d → next ≡ child t right slot → slots t ≤ next → Reaches t f size d slot
-  stops-short right next turn its-child none = record {
-    short = short;
-    there = there;
-    below = below;
-    ends = λ l. ap (λ b. child t b slot) (sym turn) ∙ omega (arith, its-child, child-le t right slot);
-  }
-
-  pub goes-through : size ≤ d → Reaches t f size d slot
-  goes-through all = record { short = short; there = there; below = below; ends = λ l. absurd (omega arith) }
 
 -- ONE BIT DOWN, from the last slot on a path
 module _ (w : ℕ) (m : Memory) (f : ℕ → Bool) (d slot : ℕ) (end : AtEnd w m f d slot) (free : ℕ) (its-spare : SpareFor w m slot free) where

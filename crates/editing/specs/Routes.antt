@@ -8,7 +8,7 @@ use Rattle.theory.specs.Ledger.{isHeld, announce, withdraw}
 use Rattle.rules.specs.Plain.{needs}
 use Rattle.rules.specs.Numbers.{MayAnnounce}
 use Rattle.memory.specs.Path.{pathBits}
-use Rattle.memory.specs.Layout.{Tree, Memory, slots, Whole, child, find, ledgerOf}
+use Rattle.memory.specs.Layout.{Memory, slots, Whole, child, find, ledgerOf}
 use Rattle.memory.specs.Tidy.{TidyBut, Tidy}
 use Rattle.editing.specs.Spare.{Exhausted}
 use Rattle.editing.specs.Edits.{Kept}
@@ -28,13 +28,6 @@ pub record OnPath (w : ℕ) (m : Memory) (f : ℕ → Bool) (size slot : ℕ) : 
   pub route : CanWithdraw w m size
   pub there : slot ≡ find (m .tree) (front f size)
   pub below : slot < slots (m .tree)
-
--- How far a path of so many bits has slots: its first d bits have one, and where that is not all of them, one bit more has none.
-pub record Reaches (t : Tree) (f : ℕ → Bool) (size d slot : ℕ) : Type 0 where
-  pub short : d ≤ size
-  pub there : slot ≡ find t (front f d)
-  pub below : slot < slots t
-  pub ends : d < size → child t (f d) slot ≡ slots t
 
 -- what a new slot is hung below: the last slot on a path, with bits left
 pub record AtEnd (w : ℕ) (m : Memory) (f : ℕ → Bool) (d slot : ℕ) : Type 0 where

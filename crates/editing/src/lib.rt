@@ -10,7 +10,7 @@ ghost use Rattle.memory.specs.Layout.{treeOf, memoryOf, layoutSlots, Shaped, Wh
 ghost use Rattle.memory.specs.Tidy.{bare, firstFree, nextFree};
 ghost use Rattle.editing.specs.Spare.{rises, idle, SpareFor};
 ghost use Rattle.editing.specs.Edits.{CanEdit, LinkSet, headAfter, Hung, Dropped};
-ghost use Rattle.editing.specs.Routes.{CanWithdraw, CanAnnounce, OnPath, Reaches, AtEnd, Reworked, Step, Announced, Withdrawn};
+ghost use Rattle.editing.specs.Routes.{CanWithdraw, CanAnnounce, OnPath, AtEnd, Reworked, Step, Announced, Withdrawn};
 use memory::Path;
 
 // Going up from a slot to slot 0 in at most `width` steps: 1 and the steps left, or 0 where the marks do not lead there.
@@ -181,30 +181,6 @@ fn drop_slot(
     set_link(lo, hi, parent, right, 0);
 }
 
-// How far a path has slots: the last one, and how many of the path's bits lead to it.
-struct Met {
-    slot: usize,
-    depth: usize,
-}
-
-// The walk down a path's first `size` bits, as far as there are slots.
-fn walk(lo: &[u32], hi: &[u32], up: &[u32], path: Path, size: usize) -> Met
-    requires { ⌜ Shaped (treeOf (now lo) (now hi) (now up)) × (size ≤ pathBits) ⌝ }
-    ensures { λ r. ⌜ Reaches (treeOf (now (lo .entry)) (now (hi .entry)) (now (up .entry))) (pathBit path) size (r .depth) (r .slot) ⌝ }
-{
-    let mut slot: usize = 0;
-    let mut depth: usize = 0;
-    while depth < size {
-        let next = memory::child_of(lo, hi, up, slot, memory::bit(path, depth));
-        if next >= up.len() {
-            return Met { slot, depth };
-        }
-        slot = next;
-        depth += 1;
-    }
-    Met { slot, depth }
-}
-
 // A new child of the last slot on a path, which is that of the path's first `depth` bits; the number of slots where no slot is
 // left.
 fn extend(
@@ -270,7 +246,7 @@ pub fn announce(
     requires { ⌜ CanAnnounce width (memoryOf (now lo) (now hi) (now up) (now hop)) size neighbour ⌝ }
     ensures { λ r. ⌜ Announced width (memoryOf (now (lo .entry)) (now (hi .entry)) (now (up .entry)) (now (hop .entry))) (memoryOf (now (lo .exit)) (now (hi .exit)) (now (up .exit)) (now (hop .exit))) (prefixOf (pathBit path) size) neighbour r ⌝ }
 {
-    let met = walk(lo, hi, up, path, size);
+    let met = memory::walk(lo, hi, up, path, size);
     let mut slot = met.slot;
     let mut depth = met.depth;
     while depth < size {

@@ -152,9 +152,3 @@ module _ (t : Tree) (shaped : Shaped t) where
             | inl q ↦ none-below (f e) (find t (front f e)) (omega (arith, subst (λ (x : ℕ). find t (front f x) ≡ slots t) q h))
             | inr q ↦ none-below (f e) (find t (front f e)) (omega (arith, further f d e h (omega arith)))
           ]
-
-  -- so a walk that finds no slot may stop
-  pub stop-here : (f : ℕ → Bool) (d e : ℕ) {p : ℕ} → p ≡ find t (front f d) → slots t ≤ p → d ≤ e → p ≡ find t (front f e)
-  stop-here f d e q n l =
-      let none-here : find t (front f d) ≡ slots t = omega (arith, find-le (front f d)) in
-      q ∙ none-here ∙ sym (none-deeper f d e none-here l)

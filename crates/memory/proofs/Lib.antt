@@ -1,4 +1,5 @@
 pub mod Find
+pub mod Reach
 pub mod Ledger
 pub mod Bare
 pub mod Chain

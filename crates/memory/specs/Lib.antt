@@ -1,3 +1,4 @@
 pub mod Path
 pub mod Layout
+pub mod Reach
 pub mod Tidy

@@ -8,6 +8,7 @@ ghost use Rattle.theory.specs.Ledger.{isHeld, orElse, longest};
 ghost use Rattle.rules.specs.Numbers.{noRoute};
 ghost use Rattle.memory.specs.Path.{pathBit, pathBits};
 ghost use Rattle.memory.specs.Layout.{treeOf, memoryOf, layoutSlots, Shaped, Whole, linkIn, mark, child, find, readHop, ledgerOf};
+ghost use Rattle.memory.specs.Reach.{Reaches};
 use numbers::HIGHEST_HOP;
 use numbers::LOWEST_HOP;
 use numbers::NO_ROUTE;
@@ -72,21 +73,40 @@ pub fn child_of(lo: &[u32], hi: &[u32], up: &[u32], slot: usize, right: bool) ->
     next
 }
 
+// How far a path has slots: the last one, and how many of the path's bits lead to it.
+pub struct Met {
+    pub slot: usize,
+    pub depth: usize,
+}
+
+// The walk down a path's first `size` bits, as far as there are slots.
+pub fn walk(lo: &[u32], hi: &[u32], up: &[u32], path: Path, size: usize) -> Met
+    requires { ⌜ Shaped (treeOf (now lo) (now hi) (now up)) × (size ≤ pathBits) ⌝ }
+    ensures { λ r. ⌜ Reaches (treeOf (now (lo .entry)) (now (hi .entry)) (now (up .entry))) (pathBit path) size (r .depth) (r .slot) ⌝ }
+{
+    let mut slot: usize = 0;
+    let mut depth: usize = 0;
+    while depth < size {
+        let next = child_of(lo, hi, up, slot, bit(path, depth));
+        if next >= up.len() {
+            return Met { slot, depth };
+        }
+        slot = next;
+        depth += 1;
+    }
+    Met { slot, depth }
+}
+
 // The slot of a path's first bits, `size` of them, or the number of slots where they have none.
 pub fn seek(lo: &[u32], hi: &[u32], up: &[u32], path: Path, size: usize) -> usize
     requires { ⌜ Shaped (treeOf (now lo) (now hi) (now up)) × (size ≤ pathBits) ⌝ }
     ensures { λ r. ⌜ r ≡ find (treeOf (now (lo .entry)) (now (hi .entry)) (now (up .entry))) (front (pathBit path) size) ⌝ }
 {
-    let mut slot: usize = 0;
-    let mut depth: usize = 0;
-    while depth < size {
-        slot = child_of(lo, hi, up, slot, bit(path, depth));
-        depth += 1;
-        if slot >= up.len() {
-            return slot;
-        }
+    let met = walk(lo, hi, up, path, size);
+    if met.depth < size {
+        return up.len();
     }
-    slot
+    met.slot
 }
 
 // Does a slot's number stand for a hop?

@@ -5,7 +5,8 @@ use Prim.Native.Nat.{_-_}
 use native.Mathlib.Omega.{arith}
 use Rattle.memory.specs.Path.{pathBit}
 use Rattle.memory.specs.Layout.{treeOf, memoryOf}
-use Rattle.editing.specs.Routes.{Reworked, Reaches}
+use Rattle.memory.specs.Reach.{Reaches}
+use Rattle.editing.specs.Routes.{Reworked}
 use Rattle.editing.proofs.Walking.{kept-lo, kept-hi, kept-hop}
 use Rattle.editing.proofs.Ending.{can-walk, step-refused, step-taken, start, at-end, go-on, still-on, announce-refused, announce-taken}
 use Rattle.editing.proofs.announce.Statement.{statement}

@@ -1,75 +1,19 @@
--- At each turn the slot is that of the bits passed; where these have none, more bits have none.
-use mathlib.Core.Path.{_≡_, refl, subst}
-use Prim.Native.Nat.{_+_, _≤_, _<_, _-_}
-use native.Mathlib.Omega.{arith}
-use lib.ListN.{length}
-use Rattle.theory.specs.Bits.{front}
-use Rattle.memory.specs.Path.{pathBit}
-use Rattle.memory.specs.Layout.{treeOf, find}
-use Rattle.memory.proofs.Find.{step-front, stop-here}
+-- Where the walk stops short of all the bits they have no slot; else its last slot is theirs.
+use borrow.Author.Needs.{needs}
+use Rattle.memory.proofs.Reach.{short-none, through-there}
 use Rattle.memory.proofs.seek.Statement.{statement}
 use Rattle.memory.proofs.seek.Tie as tie
 
-abbrev Inv-loop : tie.InvT-loop
-Inv-loop lo hi up path size slot₀ depth₀ slot depth = (depth ≤ size) × (slot < length up) × (slot ≡ find (treeOf lo hi up) (front (pathBit path) depth))
+walk-requires : tie.Need-walk-requires
+walk-requires c κs = search needs
 
-abbrev μ-loop : tie.MeasureT-loop
-μ-loop lo hi up path size slot₀ depth₀ slot depth = size - depth
-
-loop-holds : tie.Need-loop-holds Inv-loop μ-loop
-loop-holds c = (omega arith, omega (arith, c .before .before .before .pre .0 .some-slot), refl)
-
-bit-requires : tie.Need-bit-requires Inv-loop μ-loop
-bit-requires c κs =
-    let entry = c .before .before .before .before .before in
-    omega (arith, c .before .loop .inv .0, entry .pre .1)
-
-child-of-requires : tie.Need-child-of-requires Inv-loop μ-loop
-child-of-requires c κs =
-    let entry = c .before .before .before .before .before .before in
-    (entry .pre .0, c .before .before .loop .inv .1)
-
-add-depth : tie.Need-add-depth Inv-loop μ-loop
-add-depth c = omega arith
-
-returns : tie.Need-returns Inv-loop μ-loop
+returns : tie.Need-returns
 returns c =
-    let turn = c .before .before .before .before in
-    let entry = turn .before .before .before .before in
-    let links = treeOf (entry .args .lo .now) (entry .args .hi .now) (entry .args .up .now) in
-    let bits = pathBit (entry .args .path) in
-    stop-here links (entry .pre .0) bits (turn .loop .depth + 1) (entry .args .size)
-    (step-front links bits (turn .loop .depth) (turn .loop .inv .2) (c .before .before .bit .ensures)
-    (c .before .child-of .ensures))
-    (c .if1 .taken) (omega arith)
+    let entry = c .before .before .before .before .before .before in
+    short-none _ _ _ _ _ (c .before .before .walk .ensures) (entry .pre .0) (c .if1 .taken)
 
-loop-less : tie.Need-loop-less Inv-loop μ-loop
-loop-less c = omega arith
-
-loop-again : tie.Need-loop-again Inv-loop μ-loop
-loop-again c =
-    let turn = c .before .before .before .before in
-    let bits = pathBit _ in (omega arith, c .if1 .left, step-front _ bits _ (turn .loop .inv .2) (c .before .before .bit .ensures) (c .before .child-of .ensures))
-
-returns-2 : tie.Need-returns-2 Inv-loop μ-loop
-returns-2 c =
-    let entry = c .before .before .before .before .before in
-    let links = treeOf (entry .args .lo .now) (entry .args .hi .now) (entry .args .up .now) in
-    let bits = pathBit (entry .args .path) in
-    let whole-walk : c .before .loop .depth ≡ entry .args .size = omega arith in subst
-    (λ d. c .before .loop .slot ≡ find links (front bits d)) whole-walk (c .before .loop .inv .2)
+returns-2 : tie.Need-returns-2
+returns-2 c = through-there _ _ _ _ _ (c .before .before .walk .ensures) (c .if1 .left)
 
 pub seek-spec : {M : Type 1} → statement M
-seek-spec =
-    tie.close
-    (tie.spec
-    Inv-loop
-    μ-loop
-    loop-holds
-    bit-requires
-    child-of-requires
-    add-depth
-    returns
-    loop-less
-    loop-again
-    returns-2)
+seek-spec = tie.close (tie.spec walk-requires returns returns-2)

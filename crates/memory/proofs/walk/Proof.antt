@@ -4,12 +4,12 @@ use Prim.Native.Nat.{_≤_, _<_, _-_}
 use native.Mathlib.Omega.{arith}
 use lib.ListN.{length}
 use Rattle.theory.specs.Bits.{front}
 use Rattle.memory.specs.Path.{pathBit}
 use Rattle.memory.specs.Layout.{treeOf, find}
 use Rattle.memory.proofs.Find.{step-front}
-use Rattle.editing.proofs.Walking.{stops-short, goes-through}
-use Rattle.editing.proofs.walk.Statement.{statement}
-use Rattle.editing.proofs.walk.Tie as tie
+use Rattle.memory.proofs.Reach.{stops-short, goes-through}
+use Rattle.memory.proofs.walk.Statement.{statement}
+use Rattle.memory.proofs.walk.Tie as tie
 
 abbrev Inv-loop : tie.InvT-loop
 Inv-loop lo hi up path size slot₀ depth₀ slot depth = (depth ≤ size) × (slot < length up) × (slot ≡ find (treeOf lo hi up) (front (pathBit path) depth))
