@@ -7,6 +7,7 @@ use crate::timing::{Measured, Seats, Times};
 use crate::work::Work;
 use chance::Chance;
 use doors::records::RECORD;
+use std::ops::Range;
 
 /// Tables, inputs and the order of turns are drawn from this.
 pub const SEED: u64 = 1;
@@ -35,8 +36,8 @@ pub struct Bench {
 
 struct Row {
     name: &'static str,
-    /// Times so many rounds of the row's work.
-    time: Box<dyn Fn(&mut Seats, usize, &mut Chance, &mut Times)>,
+    /// Times some rounds of the row's work.
+    time: Box<dyn Fn(&mut Seats, Range<usize>, &mut Chance, &mut Times)>,
     times: Times,
 }
 
@@ -63,11 +64,16 @@ impl Bench {
         }
     }
 
-    pub fn time(&mut self, rounds: usize) {
+    pub fn time(&mut self, rounds: Range<usize>) {
         for row in &mut self.rows {
             self.seats.load(&self.feed);
-            (row.time)(&mut self.seats, rounds, &mut self.chance, &mut row.times);
+            (row.time)(&mut self.seats, rounds.clone(), &mut self.chance, &mut row.times);
         }
+    }
+
+    /// The works, each with the table's name and the times of its last round.
+    pub fn rows(&self) -> impl Iterator<Item = (&str, &str, &Times)> {
+        self.rows.iter().map(|row| (self.name.as_str(), row.name, &row.times))
     }
 
     pub fn section(mut self) -> Section {

@@ -1,6 +1,7 @@
 //! Measures the proved library against plain Rust of the same job, on the same inputs in one run, and prints Markdown.
 //!
-//! `bench/run` measures everything; `bench/run WORD` only the works that have the word in their name.
+//! `bench/run` measures everything; `bench/run WORD` only the works that have the word in their name. `bench/against` has two
+//! builds take turns, by `--turns WORD`.
 
 mod agreement;
 mod bench;
@@ -27,19 +28,24 @@ const PASSES: usize = 5;
 const ROUNDS: usize = 41;
 
 fn main() {
-    let word = std::env::args().nth(1).unwrap_or_default();
+    let mut words = std::env::args().skip(1).peekable();
+    let turns = words.next_if(|word| word == "--turns").is_some();
+    let word = words.next().unwrap_or_default();
     agreement::check(&tables(Kind::Uniform, SIZES[0])[0].routes, &mut Chance::new(SEED));
     let kinds = [Kind::Real, Kind::Uniform].into_iter();
     let mut tables: Vec<Bench> = kinds
         .flat_map(|kind| SIZES.map(|size| (kind, size)))
         .map(|(kind, size)| everything(kind, size, &word))
         .collect();
+    if turns {
+        return take_turns(&mut tables);
+    }
     let mut slots = few_and_many_slots(&word);
     let mut full = SIZES.map(|size| full_memory(size, &word));
     for pass in 1..=PASSES {
         eprintln!("pass {pass} of {PASSES}");
         for bench in tables.iter_mut().chain([&mut slots]).chain(&mut full) {
-            bench.time(ROUNDS);
+            bench.time(0..ROUNDS);
         }
     }
 
@@ -52,6 +58,22 @@ fn main() {
     print_slots(&slots.section(), FEW_SLOTS, MOST_SLOTS);
     println!("### An announcement that is refused for want of room\n");
     print_times(&full.map(Bench::section));
+}
+
+/// Tells the works; then, for each line that is read, times one round of each and tells how long the seats took.
+fn take_turns(tables: &mut [Bench]) {
+    for (table, work, _) in tables.iter().flat_map(Bench::rows) {
+        println!("{table}\t{work}");
+    }
+    println!();
+    for (round, _) in std::io::stdin().lines().enumerate() {
+        for bench in &mut *tables {
+            bench.time(round..round + 1);
+            for (_, _, times) in bench.rows() {
+                println!("{}", times.last().map(|time| time.to_string()).join("\t"));
+            }
+        }
+    }
 }
 
 fn everything(kind: Kind, size: usize, word: &str) -> Bench {

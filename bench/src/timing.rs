@@ -10,6 +10,7 @@ use crate::work::{Taker, Work};
 use chance::Chance;
 use doors::{Counted, Found, Memory};
 use std::hint::black_box;
+use std::ops::Range;
 use std::time::Instant;
 
 pub struct Seats {
@@ -46,9 +47,9 @@ impl Seats {
         assert!(ours == plain, "both sides answer and write alike");
     }
 
-    /// So many rounds of a work are timed.
-    pub fn time(&mut self, work: &impl Work, rounds: usize, chance: &mut Chance, times: &mut Times) {
-        for round in 0..rounds {
+    /// Some rounds of a work are timed.
+    pub fn time(&mut self, work: &impl Work, rounds: Range<usize>, chance: &mut Chance, times: &mut Times) {
+        for round in rounds {
             let turn = round % work.cycle();
             let mut order = [0, 1, 2, 3];
             shuffle(&mut order, chance);
@@ -67,6 +68,15 @@ impl Seats {
 pub struct Times {
     ours: [Vec<f64>; 2],
     plain: [Vec<f64>; 2],
+}
+
+impl Times {
+    /// Those of the last round: of our seats, and of plain Rust's.
+    pub fn last(&self) -> [f64; 4] {
+        let [first, second] = &self.ours;
+        let [third, fourth] = &self.plain;
+        [first, second, third, fourth].map(|times| *times.last().expect("a round was timed"))
+    }
 }
 
 /// What the times say: for an operation in each seat, and how many times as long one seat takes as another in a round.
