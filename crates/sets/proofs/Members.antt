@@ -2,8 +2,9 @@
 use mathlib.Core.Path.{_≡_, refl, ap}
 use mathlib.Core.Bool.{Bool, true, false, not}
 use mathlib.Core.List.{List}
-use Prim.Native.Nat.{ℕ, _-_, _*_, _/_, _%_, _^_, _≤_, _<_}
+use Prim.Native.Nat.{ℕ, _+_, _-_, _*_, _/_, _%_, _^_, _≤_, _<_}
 use lib.Bits.{bitAnd, bitOr}
+use lib.Count.{trailingZeros}
 use lib.Dec.{eqb}
 use lib.ListN.{length, getD, set, length-set}
 use lib.Seq.{getD-set-same, getD-set-other}
@@ -11,7 +12,7 @@ use Rattle.theory.specs.Hops.{only, some-below, least, common, join}
 use Rattle.rules.specs.Numbers.{lowestHop, highestHop, MayAnnounce, hopBound}
 use Rattle.sets.specs.declared.HopSet.{HopSet}
 use Rattle.sets.specs.Sets.{wordMembers, members, setIn, Keeps}
-use Rattle.sets.proofs.Words.{member-digit, no-member, one-member, apart-test, either-is-join, both-is-join}
+use Rattle.sets.proofs.Words.{member-digit, no-member, one-member, least-member, apart-test, either-is-join, both-is-join}
 
 pub has-digit : (s : HopSet) (h : ℕ) → lowestHop ≤ h → eqb (s .word / 2 ^ (h - 1) % 2) 1 ≡ members s h
 unfolding members
@@ -38,6 +39,10 @@ module _ (s t : HopSet) where
     pub join-both : told ≡ false → members (record { word = bitAnd (s .word) (t .word) }) ≡ join hopBound (members s) (members t)
     unfolding members
     join-both e = both-is-join (s .word) (t .word) test e
+
+pub least-is : (s : HopSet) → trailingZeros highestHop (s .word) + 1 ≡ least hopBound (members s)
+unfolding members
+least-is s = least-member (s .word)
 
 -- THE EMPTY SET has no least member, so that its `least` is the bound.
 pub least-empty : least hopBound (members (record { word = 0 })) ≡ hopBound

@@ -3,15 +3,16 @@
 use mathlib.Core.Path.{_≡_, refl, sym, ap, ap₂, fun-ext, _∙_}
 use mathlib.Core.Logic.{inl, inr}
 use mathlib.Core.Bool.{Bool, Bool·not-not, true, false, not, cond, _&&_, _||_}
-use Prim.Native.Nat.{ℕ, zero, suc, _-_, _*_, _/_, _%_, _^_, _≤_, _<_}
+use Prim.Native.Nat.{ℕ, zero, suc, _+_, _-_, _*_, _/_, _%_, _^_, _≤_, _<_}
 use native.Mathlib.Omega.{arith}
 use native.Mathlib.Nat.{div-one, zero-div}
 use native.Mathlib.Numerals.{add-one, one-add, sub-one}
 use lib.Dec.{eqb, eqb·zero-suc, eqb·suc-zero, eqb·suc-suc}
 use lib.Bits.{bitAnd, bitOr, and-le-l, and-shr, or-shr, and-mod, or-mod, shifted-half, shifted-even}
+use lib.Count.{under, trailingZeros}
 use lib.Pow.{shr-shr, shr-lt, shl-exact}
 use borrow.Author.Tests.{eqb-true, eqb-false, ne-eqb, not-true, not-false}
-use Rattle.theory.specs.Hops.{only, some-below, common, union, join}
+use Rattle.theory.specs.Hops.{only, some-below, least, common, union, join}
 use Rattle.theory.proofs.Hops.{by-test, join-apart, join-meets}
 use Rattle.rules.specs.Numbers.{lowestHop, highestHop, hopBound}
 use Rattle.sets.specs.Sets.{wordMembers}
@@ -121,6 +122,23 @@ some-digit (suc n) x l =
 some-member : (n x : ℕ) → x < 2 ^ n → some-below (suc n) (wordMembers x) ≡ not (eqb x 0)
 unfolding wordMembers
 some-member n x l = some-digit n x l
+
+-- THE LEAST MEMBER: below its digit there are only zeros, and in a word without a digit all are zeros.
+zeros-under : (p : Bool) (t : ℕ) → under (cond p 1 0) t ≡ cond p zero (suc t)
+zeros-under false t = refl
+zeros-under true t = refl
+
+least-digit : (n x : ℕ) → trailingZeros n x ≡ least n (digit x)
+unfolding trailingZeros
+least-digit zero x = refl
+least-digit (suc n) x =
+    let above = trailingZeros n (x / 2) in
+    let rest : least n (λ k. digit x (suc k)) ≡ above = ap (least n) (fun-ext (higher-digit x)) ∙ sym (least-digit n (x / 2)) in
+    rw (lowest-digit x, rest) (ap (λ d. under d above) (as-digit x) ∙ zeros-under (eqb (x % 2) 1) above)
+
+pub least-member : (x : ℕ) → trailingZeros highestHop x + 1 ≡ least hopBound (wordMembers x)
+unfolding wordMembers
+least-member x = add-one _ ∙ ap suc (least-digit highestHop x)
 
 -- TWO SETS ARE APART where their words have no digit in common; their join is the common digits or, where there are none, all of them.
 module _ (a b : ℕ) where

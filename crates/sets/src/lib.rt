@@ -5,7 +5,6 @@ ghost use Prim.Native.Nat.{_≤_};
 ghost use Rattle.theory.specs.Hops.{only, some-below, least, common, join};
 ghost use Rattle.rules.specs.Numbers.{highestHop, MayAnnounce, hopBound};
 ghost use Rattle.sets.specs.Sets.{members, setIn, HasWords, Keeps};
-use numbers::HIGHEST_HOP;
 use numbers::LOWEST_HOP;
 
 // A set of hops.
@@ -55,18 +54,12 @@ pub fn join(a: HopSet, b: HopSet) -> HopSet
     }
 }
 
-// The least hop of a set, found by looking at one hop after another; the number behind the last hop where the set is empty.
+// The least hop of a set: as many hops are below it as the word has zeros below its lowest bit. The empty set's word has no bit, and the
+// count is then that of all hops, so that the answer is the number behind the last one.
 pub fn least(set: HopSet) -> u32
     ensures { λ r. ⌜ r ≡ least hopBound (members set) ⌝ }
 {
-    let mut hop = LOWEST_HOP;
-    while hop <= HIGHEST_HOP {
-        if has(set, hop) {
-            return hop;
-        }
-        hop += 1;
-    }
-    hop
+    u64::trailing_zeros(set.word) + LOWEST_HOP
 }
 
 // A slot's set is kept in the scratch.
