@@ -71,7 +71,7 @@ impl Bench {
         }
     }
 
-    /// The works, each with the table's name and the times of its last round.
+    /// The works, each behind the table's name and with its times so far.
     pub fn rows(&self) -> impl Iterator<Item = (&str, &str, &Times)> {
         self.rows.iter().map(|row| (self.name.as_str(), row.name, &row.times))
     }
