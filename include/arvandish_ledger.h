@@ -12,11 +12,12 @@
  *
  * ANSWERS. `number` is 0 on success, else the refusal, the first that applies:
  *
- *      1   the slices differ in length, or have 0 or over 65,536 slots; in writing, also a scratch that has not one word a slot
+ *      1   the slices differ in length, or have 0 or over 65,536 slots; in writing, also a scratch that has not two words a slot
  *      2   the memory holds no ledger (never for memory that only these calls wrote, from zeros on)
  *      3 to 9     of a list and its records, as in arvandish.h; 9 speaks of the slots lent
- *     10   writing, and no prefix of length 0 is held
  *     11   writing, and the output is shorter than 8 times the smallest count
+ *
+ * No call answers 10: the empty ledger writes 0 records.
  *
  * Any memory and any bytes are taken; each call checks for itself, stays inside what it is lent, and ends. What each promises:
  * docs/PROMISES.md.
@@ -44,15 +45,15 @@ struct arvandish_updated arvandish_ledger_update(uint32_t *lo, size_t lo_len, ui
                                                  size_t up_len, uint32_t *hop, size_t hop_len, const uint8_t *list,
                                                  size_t list_len);
 
-/* The hop of an address by longest match in the ledger held, 0 for no route; place is 0. Changes nothing. */
+/* The hop of an address by longest match in the ledger held, 0 for discard; place is 0. Changes nothing. */
 struct arvandish_found arvandish_ledger_lookup(const uint32_t *lo, size_t lo_len, const uint32_t *hi, size_t hi_len,
                                                const uint32_t *up, size_t up_len, const uint32_t *hop, size_t hop_len,
                                                uint32_t address);
 
 /*
- * Writes the smallest table of the ledger held into `out`. What the scratch holds on entry never matters; it is zero after success and
- * after 11. Bytes of `out` behind the table stay as they were, and a refusal leaves all of them. `count` is the records written,
- * for 11 the records needed, else 0. The ledger never changes.
+ * Writes the smallest table of the ledger held into `out`. The scratch has two words a slot. What it holds on entry never matters; it is
+ * zero after success and after 11, and as it was after 1 and 2. Bytes of `out` behind the table stay as they were, and a refusal leaves
+ * all of them. `count` is the records written, for 11 the records needed, else 0. The ledger never changes.
  */
 struct arvandish_written arvandish_ledger_write(const uint32_t *lo, size_t lo_len, const uint32_t *hi, size_t hi_len,
                                                 const uint32_t *up, size_t up_len, const uint32_t *hop, size_t hop_len,

@@ -1,7 +1,7 @@
 //! The two sides that are compared, behind one set of calls.
 
 use crate::plain::{self, Ledger};
-use doors::{Counted, Found, Memory};
+use doors::{Counted, Found, Memory, SCRATCH_WORDS};
 
 pub trait Side {
     fn with_slots(slots: usize) -> Self;
@@ -76,7 +76,7 @@ pub struct Seat<S> {
 
 impl<S: Side> Seat<S> {
     pub fn new(slots: usize, out: usize) -> Seat<S> {
-        Seat { side: S::with_slots(slots), scratch: vec![0; slots], out: vec![0; out] }
+        Seat { side: S::with_slots(slots), scratch: vec![0; SCRATCH_WORDS * slots], out: vec![0; out] }
     }
 
     pub fn write(&mut self) -> Counted {

@@ -4,7 +4,10 @@
 
 pub mod records;
 
-/// What a lookup found: number 0 and the hop (0 for no route), or the refusal and the place of the first bad record.
+/// The words of scratch that writing asks for each slot.
+pub const SCRATCH_WORDS: usize = 2;
+
+/// What a lookup found: number 0 and the hop (0 for discard), or the refusal and the place of the first bad record.
 #[repr(C)]
 #[derive(Clone, Copy, Debug, PartialEq, Eq)]
 pub struct Found {

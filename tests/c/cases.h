@@ -1,4 +1,7 @@
-/* Document 01's cases, with prefixes as bits. J's 32 slots cannot be lent: this door has 4,096 of its own. */
+/*
+ * Document 01's cases and those of item 2 of document 02, with prefixes as bits. J's 32 slots cannot be lent: this door
+ * has 4,096 of its own.
+ */
 #ifndef CASES_H
 #define CASES_H
 
@@ -7,7 +10,10 @@
 #define TEN "00001010" /* 10.0.0.0/8 */
 #define LAST "11111111111111111111111111111111"
 
-/* Hop 0 withdraws; no bits at all end the steps. */
+/* In a hop's place: the prefix is withdrawn. No record has room for a hop so high. */
+enum { WITHDRAWN = 65536 };
+
+/* No bits at all end the steps. */
 struct step {
     const char *bits;
     unsigned hop;
@@ -22,25 +28,34 @@ struct named_case {
 };
 
 static const struct named_case CASES[] = {
-    {"A", {{0}}, 10, 0, {{0}}},
+    {"A", {{0}}, 0, 0, {{0}}},
     {"B", {{"", 1}}, 0, 0, {{"", 1}}},
     {"C", {{"", 1}, {"00", 2}, {"10", 2}, {"11", 3}}, 0, 0, {{"", 2}, {"01", 1}, {"11", 3}}},
     {"D", {{"", 1}, {"1", 2}}, 0, 0, {{"", 1}, {"1", 2}}},
     {"E", {{"", 2}, {"1", 1}}, 0, 0, {{"", 1}, {"0", 2}}},
     {"F", {{"", 1}, {"0", 2}, {"1", 2}}, 0, 0, {{"", 2}}},
-    {"G", {{"", 1}, {"0", 2}, {"1", 2}, {"0", 0}}, 0, 0, {{"", 1}, {"1", 2}}},
+    {"G", {{"", 1}, {"0", 2}, {"1", 2}, {"0", WITHDRAWN}}, 0, 0, {{"", 1}, {"1", 2}}},
     {"H", {{"", 5}, {TEN, 5}}, 0, 0, {{"", 5}}},
     {"I", {{"", 1}, {"01", 2}, {"10", 3}}, 0, 0, {{"", 1}, {"01", 2}, {"10", 3}}},
     {"J", {{"", 1}, {LAST, 2}}, 0, 0, {{"", 1}, {LAST, 2}}},
-    {"K", {{"", 0}}, 8, 0, {{0}}},
+    {"K", {{"", WITHDRAWN}}, 8, 0, {{0}}},
     {"L, 64", {{"", 64}}, 0, 0, {{"", 64}}},
     {"L, 65", {{"", 1}, {"0", 65}}, 7, 1, {{0}}},
+    {"L, 0", {{"", 1}, {"00", 0}}, 0, 0, {{"", 1}, {"00", 0}}},
     {"M, 32", {{"", 1}, {LAST, 64}}, 0, 0, {{"", 1}, {LAST, 64}}},
-    {"a prefix comes back", {{"", 1}, {"0", 2}, {"0", 0}, {"0", 3}}, 0, 0, {{"", 1}, {"0", 3}}},
-    {"withdrawn twice", {{"", 1}, {"0", 2}, {"0", 0}, {"0", 0}}, 8, 3, {{0}}},
-    {"a longer one stays", {{"", 1}, {"0", 2}, {"00", 3}, {"0", 0}}, 0, 0, {{"", 1}, {"00", 3}}},
-    {"the default goes", {{"", 1}, {"0", 2}, {"", 0}}, 10, 3, {{0}}},
-    {"no default", {{"0", 2}, {"1", 2}}, 10, 2, {{0}}},
+    {"a prefix comes back", {{"", 1}, {"0", 2}, {"0", WITHDRAWN}, {"0", 3}}, 0, 0, {{"", 1}, {"0", 3}}},
+    {"withdrawn twice", {{"", 1}, {"0", 2}, {"0", WITHDRAWN}, {"0", WITHDRAWN}}, 8, 3, {{0}}},
+    {"a longer one stays", {{"", 1}, {"0", 2}, {"00", 3}, {"0", WITHDRAWN}}, 0, 0, {{"", 1}, {"00", 3}}},
+    {"the default goes", {{"", 1}, {"0", 2}, {"", WITHDRAWN}}, 0, 0, {{"0", 2}}},
+    {"all go", {{"", 1}, {"0", 2}, {"", WITHDRAWN}, {"0", WITHDRAWN}}, 0, 0, {{0}}},
+    {"no default, one hop", {{"0", 2}, {"1", 2}}, 0, 0, {{"", 2}}},
+    {"no default, two hops", {{"0", 1}, {"1", 2}}, 0, 0, {{"", 1}, {"1", 2}}},
+    {"no default, one half", {{"0", 1}}, 0, 0, {{"0", 1}}},
+    {"document 001's example", {{"00", 1}, {"010", 1}, {"1", 1}}, 0, 0, {{"", 1}, {"011", 0}}},
+    {"discard below", {{"", 1}, {"0", 0}}, 0, 0, {{"1", 1}}},
+    {"discard above", {{"", 0}, {"1", 1}}, 0, 0, {{"1", 1}}},
+    {"discards alone", {{"", 0}, {"1", 0}}, 0, 0, {{0}}},
+    {"a discard goes", {{"", 1}, {"00", 0}, {"00", WITHDRAWN}}, 0, 0, {{"", 1}}},
 };
 
 static void put_steps(struct list *list, const struct step *steps)
@@ -51,7 +66,10 @@ static void put_steps(struct list *list, const struct step *steps)
         unsigned length = (unsigned)strlen(steps->bits);
         for (unsigned k = 0; k < length; k++)
             address |= (uint32_t)(steps->bits[k] - '0') << (31 - k);
-        add(list, address, length, steps->hop == 0 ? WITHDRAW : ANNOUNCE, steps->hop);
+        if (steps->hop == WITHDRAWN)
+            withdraw(list, address, length);
+        else
+            announce(list, address, length, steps->hop);
     }
 }
 

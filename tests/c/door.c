@@ -29,10 +29,10 @@ static const struct damage DAMAGES[] = {
     {0x0A000000, 33, ANNOUNCE, 1, 4, 4},    {0x0A000001, 255, 3, 65, 4, 4},         {0, 128, WITHDRAW, 0, 4, 4},
     {0x0A000001, 8, ANNOUNCE, 1, 5, 5},     {0x80000000, 0, ANNOUNCE, 1, 5, 5},     {0xFFFFFFFF, 31, 3, 65, 5, 5},
     {0x0A800000, 8, WITHDRAW, 0, 5, 5},     {0x0A000000, 8, 0, 1, 6, 6},            {0x0A000000, 8, 3, 0, 6, 6},
-    {0x0A000000, 8, 255, 65, 6, 6},         {0x0A000000, 8, ANNOUNCE, 0, 7, 7},     {0x0A000000, 8, ANNOUNCE, 65, 7, 7},
-    {0x0A000000, 8, ANNOUNCE, 256, 7, 7},   {0x0A000000, 8, ANNOUNCE, 65535, 7, 7}, {0x0A000000, 8, WITHDRAW, 1, 7, 6},
-    {0x0A000000, 8, WITHDRAW, 256, 7, 6},   {0x0B000000, 8, WITHDRAW, 0, 8, 6},     {0x0A000000, 9, WITHDRAW, 0, 8, 6},
-    {0x0A000000, 7, WITHDRAW, 0, 8, 6},     {0, 32, WITHDRAW, 0, 8, 6},
+    {0x0A000000, 8, 255, 65, 6, 6},         {0x0A000000, 8, ANNOUNCE, 256, 7, 7},   {0x0A000000, 8, ANNOUNCE, 65, 7, 7},
+    {0x0A000000, 8, ANNOUNCE, 65535, 7, 7}, {0x0A000000, 8, WITHDRAW, 256, 7, 6},   {0x0A000000, 8, WITHDRAW, 1, 7, 6},
+    {0x0B000000, 8, WITHDRAW, 0, 8, 6},     {0x0A000000, 9, WITHDRAW, 0, 8, 6},     {0x0A000000, 7, WITHDRAW, 0, 8, 6},
+    {0, 32, WITHDRAW, 0, 8, 6},
 };
 enum { ALL_DAMAGES = sizeof DAMAGES / sizeof *DAMAGES };
 
@@ -85,8 +85,8 @@ static void lengths(void)
         }
     }
     now_trying("no bytes");
-    TABLE_REFUSED(NOTHING, 0, 10, 0);
-    TABLE_REFUSED(NOTHING, 100, 10, 0);
+    TABLE(NOTHING, 0, NOTHING);
+    TABLE(NOTHING, 100, NOTHING);
     LOOKUP(NOTHING, 0, 0);
     LOOKUP(NOTHING, LAST_ADDRESS, 0);
 }
@@ -137,6 +137,14 @@ static void lookups(void)
     LOOKUP(all_of(&list), 0x40000000, 2);
     LOOKUP(all_of(&list), 0x50000000, 1);
     LOOKUP(all_of(&list), 0x80000000, 0);
+
+    /* A discard hides a shorter route, and a longer one hides the discard. */
+    announce(&list, 0, 0, 3);
+    announce(&list, 0x40000000, 2, 0);
+    now_trying("01* discarded under *");
+    LOOKUP(all_of(&list), 0x40000000, 2);
+    LOOKUP(all_of(&list), 0x50000000, 0);
+    LOOKUP(all_of(&list), 0x80000000, 3);
 }
 
 /* All strings of at most 11 bits are 4,095; with one of 12 bits the library's slots are used up. */
@@ -161,13 +169,13 @@ static void slots(void)
 
     size_t full = list.count;
     uint32_t other = 1u << (32 - WIDE - 1);
-    now_trying("one slot more");
-    announce(&list, other, WIDE + 1, 1);
+    now_trying("one slot more, for a discard");
+    announce(&list, other, WIDE + 1, 0);
     announce(&list, 0, 0, 1);
     TABLE_REFUSED(all_of(&list), RECORD * list.count, 9, full);
     now_trying("the list lookup has no limit of slots");
     LOOKUP(all_of(&list), 0, 3);
-    LOOKUP(all_of(&list), other, 1);
+    LOOKUP(all_of(&list), other, 0);
 
     now_trying("a full ledger takes a new hop, and room that was freed");
     list.count = full;
@@ -189,21 +197,43 @@ static uint32_t draw(uint32_t bound)
     return word % bound;
 }
 
-/* Random announcements of prefixes of at most WIDE bits, and withdrawals if these are wanted. The default stays. */
-static void long_list(struct list *list, struct plain *plain, bool withdrawals)
+/* Random announcements of prefixes of at most WIDE bits, discards among them, and withdrawals if these are wanted. */
+static void random_list(struct list *list, struct plain *plain, size_t records, bool withdrawals)
 {
     memset(plain, 0, sizeof *plain);
     list->count = 0;
-    announce(list, 0, 0, plain->held[1] = 7);
-    while (list->count < MOST_RECORDS) {
-        unsigned length = 1 + draw(WIDE), string = (1u << length) + draw(1u << length);
+    while (list->count < records) {
+        unsigned length = draw(WIDE + 1), string = (1u << length) + draw(1u << length), hop = draw(5);
         if (withdrawals && plain->held[string] != 0) {
             withdraw(list, start_of(string, length), length);
             plain->held[string] = 0;
         } else {
-            plain->held[string] = (uint8_t)(1 + draw(4));
-            announce(list, start_of(string, length), length, plain->held[string]);
+            announce(list, start_of(string, length), length, hop);
+            plain->held[string] = (uint8_t)(hop + 1);
         }
+    }
+}
+
+/* The list's table is the one that is worked out plainly, too long for an output of a byte less, and its own table. */
+static void check_table(const struct list *list, const struct plain *plain, struct list *table)
+{
+    plain_table(plain, table);
+    struct bytes held = all_of(list), written = all_of(table);
+    TABLE(held, held.length, written);
+    if (table->count > 0)
+        TABLE_REFUSED(held, written.length - 1, 11, table->count);
+    TABLE(written, written.length, written);
+}
+
+/* With so few records many a list holds no default, and leaves addresses without a route. */
+static void short_lists(void)
+{
+    static struct list list, table;
+    static struct plain plain;
+    for (int tries = 0; tries < 500; tries++) {
+        random_list(&list, &plain, draw(30), true);
+        now_trying("short list %d, of %zu records", tries, list.count);
+        check_table(&list, &plain, &table);
     }
 }
 
@@ -212,15 +242,9 @@ static void long_lists(void)
     static struct list list, table;
     static struct plain plain;
     for (int withdrawals = 1; withdrawals >= 0; withdrawals--) {
-        long_list(&list, &plain, withdrawals);
-        plain_table(&plain, &table);
-        struct bytes long_one = all_of(&list), written = all_of(&table);
+        random_list(&list, &plain, MOST_RECORDS, withdrawals);
         now_trying("%d records, %s withdrawals", MOST_RECORDS, withdrawals ? "with" : "without");
-        TABLE(long_one, long_one.length, written);
-        TABLE_REFUSED(long_one, written.length - 1, 11, table.count);
-        TABLE(written, written.length, written);
-        struct bytes no_default = {list.bytes + RECORD, long_one.length - RECORD};
-        TABLE_REFUSED(no_default, long_one.length, 10, MOST_RECORDS - 1);
+        check_table(&list, &plain, &table);
     }
     /* The list without withdrawals, damaged far inside, and looked up beside its table. */
     for (size_t place = 1; place < MOST_RECORDS; place += MOST_RECORDS / 3 - 1)
@@ -248,6 +272,7 @@ int main(int arguments, char **argument)
     lengths();
     lookups();
     slots();
+    short_lists();
     long_lists();
     end();
 }

@@ -12,7 +12,9 @@
 #define PLANT 0
 #endif
 
-enum { FIRST_REFUSAL = 3, LAST_REFUSAL = 11, REFUSALS = LAST_REFUSAL - FIRST_REFUSAL + 1 };
+/* What the table call may refuse with. */
+static const uint32_t REFUSAL_NUMBERS[] = {3, 4, 5, 6, 7, 8, 9, 11};
+enum { REFUSALS = sizeof REFUSAL_NUMBERS / sizeof *REFUSAL_NUMBERS };
 
 enum fault {
     NO_FAULT,
@@ -37,7 +39,7 @@ enum fault {
     LOOKUP_LAST_LIST_BYTE,
     LOOKUP_BYTE_BEFORE_LIST,
     LOOKUP_BYTE_BEHIND_LIST,
-    /* From here on one fault for each refusal 3 to 11. */
+    /* From here on one fault for each refusal of the table call. */
     REFUSAL_IS_SUCCESS,
     REFUSAL_HAS_ANOTHER_NUMBER = REFUSAL_IS_SUCCESS + REFUSALS,
     REFUSAL_HAS_ANOTHER_COUNT = REFUSAL_HAS_ANOTHER_NUMBER + REFUSALS,
@@ -54,7 +56,10 @@ static bool planted(enum fault fault)
 
 static bool planted_for(enum fault fault, uint32_t number)
 {
-    return number >= FIRST_REFUSAL && number <= LAST_REFUSAL && PLANT == fault + number - FIRST_REFUSAL;
+    for (unsigned k = 0; k < REFUSALS; k++)
+        if (REFUSAL_NUMBERS[k] == number)
+            return PLANT == fault + k;
+    return false;
 }
 
 static void spoil(bool wanted, uint8_t *byte)
@@ -106,7 +111,7 @@ static void plant_in_lookup(struct arvandish_found *came, struct lent list)
     if (planted(success ? PLACE_OF_SUCCESS : PLACE_OF_REFUSAL))
         came->place += 1;
     if (planted(LOOKUP_IS_REFUSED) && success)
-        came->number = FIRST_REFUSAL;
+        came->number = REFUSAL_NUMBERS[0];
 }
 
 #endif

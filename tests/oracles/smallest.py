@@ -1,4 +1,6 @@
-"""The smallest table of a ledger, by document 01's definition on bit strings, and two other ways to its count."""
+"""The smallest table of a ledger, by document 01's definition on bit strings, and two other ways to its count.
+
+Hop 0 is discard. An address without a route has it, and above the empty string it is in force."""
 from functools import cache
 from itertools import product
 
@@ -6,12 +8,12 @@ from itertools import product
 def strings(routes):
     """The strings that have a held route below them, and the hop of a string that has none: it has that hop throughout."""
     def hop(string):
-        return next(routes[string[:k]] for k in range(len(string), -1, -1) if string[:k] in routes)
+        return next((routes[string[:k]] for k in range(len(string), -1, -1) if string[:k] in routes), 0)
     return {prefix[:k] for prefix in routes for k in range(len(prefix))}, hop
 
 
 def smallest(routes):
-    """Pairs of a string and a hop, by address and then by length. A route of length 0 is held."""
+    """Pairs of a string and a hop, by address and then by length."""
     inner, hop = strings(routes)
 
     @cache
@@ -31,7 +33,7 @@ def smallest(routes):
             down(string + "0", above)
             down(string + "1", above)
 
-    down("", None)
+    down("", 0)
     return sorted(entries, key=lambda entry: (entry[0].ljust(32, "0"), len(entry[0])))
 
 
@@ -43,23 +45,23 @@ def fewest(routes):
     def cost(string, above):
         if string not in inner:
             return int(hop(string) != above)
-        return min(cost(string + "0", h) + cost(string + "1", h) + int(h != above) for h in {above} | set(routes.values()))
+        return min(cost(string + "0", h) + cost(string + "1", h) + int(h != above) for h in {above, 0} | set(routes.values()))
 
-    return cost("", None)
+    return cost("", 0)
 
 
 def by_force():
-    """Of all tables of width 2 with the hops 1 to 3, those that answer every address: none that agrees has fewer entries."""
+    """Of all tables of width 2 with the hops 0 to 2, with a route of length 0 or without: none that agrees has fewer entries."""
     prefixes = ["", "0", "1", "00", "01", "10", "11"]
+
+    def answers(table):
+        return tuple(next((table[a[:k]] for k in (2, 1, 0) if a[:k] in table), 0) for a in prefixes[3:])
+
     least, tables = {}, []
-    for hops in product((0, 1, 2, 3), repeat=len(prefixes)):
-        table = {prefix: hop for prefix, hop in zip(prefixes, hops) if hop}
-        answers = tuple(next((table[a[:k]] for k in (2, 1, 0) if a[:k] in table), 0) for a in prefixes[3:])
-        least[answers] = min(least.get(answers, 9), len(table))
-        if "" in table:
-            tables.append((table, answers))
-    for table, answers in tables:
+    for hops in product((None, 0, 1, 2), repeat=len(prefixes)):
+        tables.append({prefix: hop for prefix, hop in zip(prefixes, hops) if hop is not None})
+        least[answers(tables[-1])] = min(least.get(answers(tables[-1]), 9), len(tables[-1]))
+    for table in tables:
         written = smallest(table)
-        routes = dict(written)
-        assert answers == tuple(next(routes[a[:k]] for k in (2, 1, 0) if a[:k] in routes) for a in prefixes[3:]), table
-        assert len(written) == least[answers] == fewest(table), table
+        assert answers(dict(written)) == answers(table), table
+        assert len(written) == least[answers(table)] == fewest(table), table

@@ -33,7 +33,7 @@ def one_record():
     ledger.run(withdraw(0, 0), LOOK, withdraw(0, 32), withdraw(ALL, 32), LOOK, withdraw(0, 0), withdraw(ALL, 32))
     say("-- update: edges of the rules 4 to 7")
     ledger.run(announce(0, 255, 1), announce(QUARTER[2], 0, 1), announce(ALL, 31, 1), (0, 0, 0, 1), (0, 0, 255, 1))
-    ledger.run(announce(0, 0, 0), announce(0, 0, 257), announce(0, 0, 64), LOOK)
+    ledger.run(announce(0, 0, 65), announce(0, 0, 257), announce(0, 0, 64), LOOK, announce(0, 0, 0), LOOK)
 
 
 def list_lookups():
@@ -47,7 +47,10 @@ def list_lookups():
     tries = [(0, 0), (7, ALL), (8, ALL), (16, ALL), (16, ALL - 1), (24, ALL), (39, ALL), (40, ALL), (40, ALL - 1),
              (40, QUARTER[2]), (40, QUARTER[2] - 1), (40, 1), (40, 0)]
     tries_of_five = [(8, ALL), (40, 0), (40, 0x0FFFFFFF), (40, 0x10000000), (40, 0xDFFFFFFF), (40, ALL)]
-    for records, pairs in ((twice, tries), (FIVE, tries_of_five)):
+    discards = [announce(0, 0, 64), announce(QUARTER[2], 1, 0), announce(QUARTER[3], 2, 2), announce(QUARTER[3], 2, 0),
+                announce(ALL, 32, 1)]
+    tries_of_discards = [(8, ALL), (16, ALL), (24, ALL), (32, ALL), (40, ALL), (40, ALL - 1), (40, QUARTER[2]), (40, QUARTER[2] - 1)]
+    for records, pairs in ((twice, tries), (FIVE, tries_of_five), (discards, tries_of_discards)):
         say("-- list lookup: " + ", ".join("%s/%d %d" % (dotted(a), n, h) for a, n, _, h in records))
         for count, address in pairs:
             say("  %d bytes, lookup of %s: %s" % (count, dotted(address), list_lookup(records, count, address)))
@@ -75,6 +78,10 @@ def room():
     ledger = Ledger(1)
     ledger.run(announce(0, 1, 1), announce(0, 0, 2), announce(0, 1, 3), LOOK, announce(0, 0, 4), withdraw(0, 1), LOOK)
     ledger.run(withdraw(0, 0), withdraw(0, 0), LOOK)
+    say("-- 3 slots: a discard is held, needs its slots and hides the shorter route")
+    ledger = Ledger(3)
+    ledger.run(announce(0, 0, 1), announce(QUARTER[1], 2, 0), LOOK, announce(QUARTER[2], 1, 2), announce(QUARTER[1], 2, 3), LOOK)
+    ledger.run(announce(QUARTER[1], 2, 0), withdraw(QUARTER[1], 2), withdraw(QUARTER[1], 2), announce(QUARTER[2], 1, 2), LOOK)
 
 
 def scattered(seed, *bounds):

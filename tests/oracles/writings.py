@@ -18,18 +18,17 @@ def in_bytes(record):
 
 
 class Writer(Ledger):
-    """A ledger that is written, too: with a scratch of so many words, each of them `fill`, into an output of `room` bytes."""
+    """A ledger that is written, too: with a scratch of so many words, two a slot if None, each of them `fill`, into an output of
+    `room` bytes."""
 
     words, fill, room = None, ONES, ROOM
 
     def answer(self):
         """The number of a refusal or 0, the count, and the table."""
-        if self.whole == 1 or self.words not in (None, self.slots):
+        if self.whole == 1 or self.words not in (None, 2 * self.slots):
             return 1, 0, []
         if self.whole:
             return self.whole, 0, []
-        if "" not in self.routes:
-            return 10, 0, []
         entries = smallest(self.routes)
         assert len(entries) == fewest(self.routes) <= len(self.routes)
         if self.room < 8 * len(entries):
@@ -38,8 +37,7 @@ class Writer(Ledger):
 
     def write(self):
         number, count, table = self.answer()
-        words = self.slots if self.words is None else self.words
-        left = "zero" if number in (0, 11) or self.fill == 0 or words == 0 else "as it was"
+        left = "zero" if number in (0, 11) or self.fill == 0 or self.words == 0 else "as it was"
         said = "refused %d" % number if number else "written"
         say("  %s, count %d; scratch %s; rest of output as it was" % (said, count, left))
         if number:
@@ -88,12 +86,25 @@ def cases():
     trial("case J", 33, ROOM, *j)
     trial("case J", 32, ROOM, *j)
     trial("case K", 1, ROOM, withdraw(0, 0), LOOK, WRITE)
-    trial("case L", 1, ROOM, announce(0, 0, 64), announce(0, 0, 65), WRITE)
+    trial("case L", 1, ROOM, announce(0, 0, 64), announce(0, 0, 65), WRITE, announce(0, 0, 0), WRITE)
     trial("case M", 33, ROOM, announce(0, 0, 1), announce(TEN, 32, 2), announce(TEN, 33, 3), WRITE)
     say("-- case N: 1 slot")
     ledger = Writer(1)
     ledger.odd(7)
     ledger.odd(0)
+
+
+def discards():
+    """Ledgers without a default route, and discards that are announced."""
+    trial("all withdrawn", 2, ROOM, announce(QUARTER[2], 1, 1), withdraw(QUARTER[2], 1), WRITE)
+    trial("one half", 2, ROOM, announce(0, 1, 1), WRITE)
+    trial("both halves", 3, ROOM, announce(0, 1, 1), announce(QUARTER[2], 1, 2), WRITE)
+    trial("document 001's example", 6, ROOM, announce(0, 2, 1), announce(QUARTER[1], 3, 1), announce(QUARTER[2], 1, 1), WRITE)
+    trial("discard below", 2, ROOM, announce(0, 0, 1), announce(0, 1, 0), WRITE)
+    trial("discard above", 2, ROOM, announce(0, 0, 0), announce(QUARTER[2], 1, 1), WRITE)
+    trial("discards alone", 2, ROOM, announce(0, 0, 0), announce(QUARTER[2], 1, 0), WRITE)
+    trial("a discard is held", 3, ROOM, announce(0, 0, 1), announce(0, 2, 0), announce(QUARTER[2], 1, 2), WRITE,
+          withdraw(0, 2), announce(QUARTER[2], 1, 2), WRITE, withdraw(0, 2))
 
 
 def odd(lengths, words, fill):
@@ -104,15 +115,16 @@ def odd(lengths, words, fill):
 
 
 def slices():
-    for words, fill in [(6, ONES), (6, 0), (5, ONES), (7, ONES), (0, ONES)]:
+    for words, fill in [(12, ONES), (12, 0), (11, ONES), (13, ONES), (6, ONES), (0, ONES)]:
         odd((6, 6, 6, 6), words, fill)
     odd((0, 0, 0, 0), 0, ONES)
     for shorter in range(4):
-        odd([5 if k == shorter else 6 for k in range(4)], 6, ONES)
-    for room in (ROOM, 0):
-        trial("no default route", 2, room, announce(QUARTER[2], 1, 1), WRITE)
+        odd([5 if k == shorter else 6 for k in range(4)], 12, ONES)
+    trial("no record", 1, 0, WRITE)
     for room in (0, 7, 8, 15):
         trial("one record", 1, room, announce(0, 0, 1), WRITE)
+    for room in (7, 8):
+        trial("one record, no default route", 2, room, announce(QUARTER[2], 1, 1), WRITE)
     say("-- 65536 slots")
     Writer(65536).run(announce(0, 0, 1), announce(ALL, 32, 2), WRITE)
     say("-- 65537 slots")
@@ -134,22 +146,22 @@ def memories():
     for first in (ALL, 13, 12):
         say("-- 12 slots filled with 4294967295, up[0] %d" % first)
         ledger = memory(ones, ones, [first] + ones[1:], ones, Writer)
-        for ledger.words in (13, 12):
+        for ledger.words in (25, 12, 24):
             ledger.write()
     four("slot 1 is its own child, and slot 0 names it on both sides", [1, 1, 0, 0], [1, 0, 0, 0], [0, 3, 0, 0], [6, 21, 0, 0])
     four("slot 1 is the child of slot 0, slot 2 of slot 1, and slot 2 names slot 1 and itself",
          [1, 2, 1, 0], [0, 0, 2, 0], [0, 1, 3, 0], [6, 31, 32, 0])
     four("slots 0 and 1 both name slot 2, which carries the mark of slot 0", [1, 2, 0, 0], [2, 0, 0, 0], [0, 1, 2, 0], [6, 41, 42, 0])
-    for stored, means in ((65, "64"), (66, "none"), (1, "none")):
+    for stored, means in ((65, "64"), (66, "none"), (1, "discard")):
         four("the default route's hop is stored as %d, which is %s" % (stored, means),
              [1, 3, 0, 0], [2, 0, 0, 0], [4, 1, 2, 3], [stored, 66, 1, ALL])
-    for seed in (1, 265776, 235148, 215029, 176853):
+    for seed in (1, 265776, 235148, 215029, 176853, 265071, 1348941):
         say("-- 8 slots of pseudo-random words, seed %d" % seed)
         made(*scatter(seed, 8, (8, 8, 9, 7)))
 
 
 def random_changes(seed):
-    """Twice 20 changes and a writing: lengths 0 to 8 and 32, hops 1 to 4 and 61 to 64."""
+    """Twice 20 changes and a writing: lengths 0 to 8 and 32, hops 0 to 4 and 61 to 64."""
     last = seed
     for place in range(42):
         word = next_word(last)
@@ -161,18 +173,19 @@ def random_changes(seed):
         elif word % 4 == 0:
             yield withdraw(address, size)
         else:
-            yield announce(address, size, [1, 2, 3, 4, 61, 62, 63, 64][word // 40 % 8])
+            yield announce(address, size, [0, 1, 2, 3, 4, 61, 62, 63, 64][word // 40 % 9])
 
 
 def runs():
-    trial("every hop", 127, MOST_ROOM, announce(0, 0, 64), *(announce(k << 26, 6, k + 1) for k in range(64)), WRITE)
+    trial("every hop", 128, MOST_ROOM, announce(0, 0, 64), *(announce(k << 26, 6, k + 1) for k in range(64)), WRITE,
+          announce(63 << 26, 7, 0), WRITE)
     trial("every length", 33, MOST_ROOM, *(announce(0, size, size % 3 + 1) for size in range(33)), WRITE)
-    for seed, slots in ((301, 200), (222, 120), (21, 80), (72, 50), (5, 50)):
+    for seed, slots in ((208, 200), (1950, 120), (1574, 80), (197, 50), (2433, 50)):
         say("-- seed %d" % seed)
         trial("pseudo-random changes", slots, MOST_ROOM, *random_changes(seed))
 
 
 def tell():
     by_force()
-    for part in (cases, slices, memories, runs):
+    for part in (cases, discards, slices, memories, runs):
         part()

@@ -71,6 +71,8 @@ def line(record):
     """How the tool writes a record."""
     address, length, action, hop = record
     at = "%s/%d" % (dotted(address), length)
+    if (action, hop) == (1, 0):
+        return "%s discard\n" % at
     if action == 1:
         return "%s via %d\n" % (at, hop)
     if (action, hop) == (2, 0):
@@ -82,6 +84,12 @@ def lines(records):
     return "".join(map(line, records))
 
 
+def answer(address, hop):
+    """How the tool tells the hop of an address."""
+    return "%s via %d\n" % (dotted(address), hop) if hop else "%s is discarded\n" % dotted(address)
+
+
 def figures(held, used, slots, written):
-    return "held routes      %d\nslots used       %d of %d\nwritten records  %d\nratio            %.1f %%\n" % (
-        held, used, slots, written, 100 * written / held)
+    ratio = "%.1f %%" % (100 * written / held) if held else "none"
+    return "held routes      %d\nslots used       %d of %d\nwritten records  %d\nratio            %s\n" % (
+        held, used, slots, written, ratio)

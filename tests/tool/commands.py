@@ -69,9 +69,9 @@ def lookups():
         says(["lookup", "255.255.255.255", "0.0.0.0", "64.0.0.0", "0.0.0.0", C, *table], out=answers)
         feed = "10.0.0.0/8 via 5\n10.0.0.0/8 via 6\n10.1.0.0/16 via 7\n"
         says(["lookup", *table, "10.2.0.0", "10.1.0.0", "11.0.0.0"], feed,
-             out="10.2.0.0 via 6\n10.1.0.0 via 7\n11.0.0.0 has no route\n")
+             out="10.2.0.0 via 6\n10.1.0.0 via 7\n11.0.0.0 is discarded\n")
     withdrawn = "10.0.0.0/8 via 5\n10.1.0.0/16 via 7\nwithdraw 10.0.0.0/8\n"
-    says(["lookup", "10.2.0.0", "10.1.0.0"], withdrawn, out="10.2.0.0 has no route\n10.1.0.0 via 7\n")
+    says(["lookup", "10.2.0.0", "10.1.0.0"], withdrawn, out="10.2.0.0 is discarded\n10.1.0.0 via 7\n")
 
 
 def files():
@@ -80,9 +80,11 @@ def files():
         told = figures(4, 6, SLOTS, 3)
         says(["squeeze", "-o", path, C], err=told)
         same("-o", {"file": TABLE}, {"file": file(path)})
-        for feed, expected in (("10.0.0.0/8 via 5", 1), ("10.0.0.0/8", 2)):
+        for feed, expected in (("10.0.0.0/8 via 65", 1), ("10.0.0.0/8", 2)):
             _, _, status = run(["squeeze", "--output=" + path], feed)
             same("-o and no table", {"status": expected, "file": TABLE}, {"status": status, "file": file(path)})
+        says(["squeeze", "-q", "-o", path], "")
+        same("-o and an empty table", {"file": b""}, {"file": file(path)})
         says(["pack", "-o", path, C])
         says(["squeeze", "-q", path], out=TABLE)
         says(["squeeze", "-q", path, "-o", path])
@@ -107,7 +109,7 @@ def pipes():
     with open("/dev/full", "wb") as full:
         wrong(["squeeze", C], "", "standard output: No space left on device (os error 28)", stdout=full)
         says(["squeeze", C], out=TABLE, stderr=full, title="no room for the figures:")
-        says(["squeeze"], status=1, stderr=full, title="no room for the refusal:")
+        says(["squeeze"], "10.0.0.0/8 via 65", status=1, stderr=full, title="no room for the refusal:")
     ours, theirs = pty.openpty()
     no_text = "records are no text for a terminal: name a file with -o, or use a pipe" + HINT
     for arguments in (["pack", C], ["squeeze", "--to", "records", C]):

@@ -1,7 +1,7 @@
 """Long feeds: 20,000 lines, and feeds that need more slots than the tool lends at first, or than there can be."""
 from checks import figures, lines, packed, refuses, says
-from plain import bits, dotted, longest, next_word
-from samples import table_of
+from plain import bits, dotted, next_word
+from samples import answers, table_of
 
 LINES = 20000
 MOST_SLOTS = 65536
@@ -14,14 +14,17 @@ def words(seed):
         yield seed
 
 
-def busy():
-    """Announcements and withdrawals of prefixes of 12 to 22 bits below 10.0.0.0/8, so close that many meet again."""
-    records, routes, draw = [(0, 0, 1, 1)], {"": 1}, words(2463534242)
+def busy(default):
+    """Announcements, some to discard, and withdrawals of prefixes of 12 to 22 bits below 10.0.0.0/8, so close that many
+    meet again; behind a default route or without one."""
+    records, routes, draw = [], {}, words(2463534242)
+    if default:
+        records, routes = [(0, 0, 1, 1)], {"": 1}
     while len(records) < LINES:
         length = 12 + next(draw) % 11
         address = TEN | (next(draw) & 0xFFFFFF) >> 32 - length << 32 - length
-        prefix, hop = bits(address, length), next(draw) % 7
-        if hop:
+        prefix, hop = bits(address, length), next(draw) % 8
+        if hop < 7:  # 7 draws a withdrawal
             routes[prefix] = hop
             records.append((address, length, 1, hop))
         elif prefix in routes:
@@ -34,8 +37,8 @@ def used(routes):
     return {prefix[:k] for prefix in routes for k in range(len(prefix) + 1)} | {""}
 
 
-def taken():
-    records, routes = busy()
+def taken(default):
+    records, routes = busy(default)
     table, slots = table_of(routes), 4096
     while slots < most_used(records):
         slots *= 2
@@ -45,10 +48,9 @@ def taken():
     says(["pack"], lines(records), out=packed(records), title="20,000 lines:")
     says(["show"], packed(records), out=lines(records), title="20,000 records:")
     addresses = [next(draw) & 0xFFFFFF | TEN for draw in [words(88172645)] for _ in range(500)]
-    answers = "".join("%s via %s\n" % (dotted(at), longest(routes, at).split()[1]) for at in addresses)
-    looked = [dotted(at) for at in addresses]
-    says(["lookup", *looked], lines(records), out=answers, title="20,000 lines:")
-    says(["lookup", "--table", *looked], packed(table), out=answers, title="in their table:")
+    told, looked = answers(routes, addresses), [dotted(at) for at in addresses]
+    says(["lookup", *looked], lines(records), out=told, title="20,000 lines:")
+    says(["lookup", "--table", *looked], packed(table), out=told, title="in their table:")
 
 
 def most_used(records):
@@ -90,5 +92,6 @@ def too_many():
 
 
 def try_all():
-    taken()
+    for default in (True, False):
+        taken(default)
     too_many()

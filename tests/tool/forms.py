@@ -3,7 +3,8 @@ from checks import figures, lines, packed, refuses, run, same, says, wrong
 from plain import next_word
 from samples import SLOTS
 
-A_LINE = "`10.0.0.0/8 via 5`, `withdraw 10.0.0.0/8`, or `action 3 10.0.0.0/8 hop 5` for other records"
+A_LINE = ("`10.0.0.0/8 via 5`, `10.0.0.0/8 discard`, `withdraw 10.0.0.0/8`, "
+          "or `action 3 10.0.0.0/8 hop 5` for other records")
 A_PREFIX = "a prefix as 10.0.0.0/8, or `default` for 0.0.0.0/0"
 A_BYTE = "a number from 0 to 255 for a prefix length or an action"
 A_HOP = "a number from 0 to 65535 for a hop"
@@ -12,7 +13,10 @@ TEN = 0x0A000000
 SAID = [  # a line, and the record that it says
     ("10.0.0.0/8 via 5", (TEN, 8, 1, 5)),
     ("withdraw 10.0.0.0/8", (TEN, 8, 2, 0)),
+    ("10.0.0.0/8 discard", (TEN, 8, 1, 0)),
+    ("10.0.0.0/8 via 0", (TEN, 8, 1, 0)),
     ("default via 1", (0, 0, 1, 1)),
+    ("default discard", (0, 0, 1, 0)),
     ("withdraw default", (0, 0, 2, 0)),
     ("\t 10.0.0.0/8\tvia   5 \t", (TEN, 8, 1, 5)),
     ("10.0.0.0/8 via 5# no space", (TEN, 8, 1, 5)),
@@ -23,7 +27,7 @@ SAID = [  # a line, and the record that it says
     ("10.0.0.1/8 via 5", (TEN + 1, 8, 1, 5)),
     ("10.0.0.0/33 via 65", (TEN, 33, 1, 65)),
     ("255.255.255.255/255 via 65535", (2**32 - 1, 255, 1, 65535)),
-    ("10.0.0.0/8 via 0", (TEN, 8, 1, 0)),
+    ("10.0.0.1/33 discard", (TEN + 1, 33, 1, 0)),
     ("action 0 0.0.0.0/0 hop 0", (0, 0, 0, 0)),
     ("action 255 10.0.0.0/8 hop 65535", (TEN, 8, 255, 65535)),
     ("action 2 10.0.0.0/8 hop 7", (TEN, 8, 2, 7)),
@@ -32,14 +36,16 @@ UNREADABLE = [  # a line, and what is expected instead
     ("10.0.0.0/8", A_LINE), ("via 5", A_LINE), ("10.0.0.0/8 via 5 6", A_LINE), ("10.0.0.0/8 5", A_LINE),
     ("withdraw", A_LINE), ("withdraw 10.0.0.0/8 via 5", A_LINE), ("announce 10.0.0.0/8 via 5", A_LINE),
     ("action 3 10.0.0.0/8 via 5", A_LINE), ("10.0.0.0/8 VIA 5", A_LINE), (",", A_LINE),
+    ("discard", A_LINE), ("discard 10.0.0.0/8", A_LINE), ("10.0.0.0/8 discard 0", A_LINE),
+    ("withdraw 10.0.0.0/8 discard", A_LINE),
     ("10.0.0.0 via 5", A_PREFIX), ("10.0.0/8 via 5", A_PREFIX), ("10.0.0.256/8 via 5", A_PREFIX),
     ("Default via 5", A_PREFIX), ("10.0.0.-1/8 via 5", A_PREFIX), ("010.0.0.0/8 via 5", A_PREFIX),
-    ("::/0 via 5", A_PREFIX), ("withdraw 10", A_PREFIX),
+    ("::/0 via 5", A_PREFIX), ("withdraw 10", A_PREFIX), ("10 discard", A_PREFIX), ("withdraw discard", A_PREFIX),
     ("10.0.0.0/256 via 5", A_BYTE), ("10.0.0.0/ via 5", A_BYTE), ("10.0.0.0/-1 via 5", A_BYTE),
     ("10.0.0.0/8/9 via 5", A_BYTE), ("10.0.0.0/+8 via 5", A_BYTE), ("action 256 10.0.0.0/8 hop 5", A_BYTE),
     ("action x 10.0.0.0/8 hop 5", A_BYTE),
     ("10.0.0.0/8 via 65536", A_HOP), ("10.0.0.0/8 via five", A_HOP), ("10.0.0.0/8 via +5", A_HOP),
-    ("10.0.0.0/8 via -5", A_HOP), ("10.0.0.0/8 via 5.0", A_HOP),
+    ("10.0.0.0/8 via -5", A_HOP), ("10.0.0.0/8 via 5.0", A_HOP), ("10.0.0.0/8 via discard", A_HOP),
     ("action 3 10.0.0.0/8 hop 99999999999999999999", A_HOP),
 ]
 
@@ -106,12 +112,12 @@ def which_form():
 
 
 def empty():
-    nothing = "no default route, 0.0.0.0/0, is held at the end, so no table is written"
     for feed in ("", "\n", "# nothing\n"):
         says(["pack"], feed, title=repr(feed))
-        refuses(["squeeze"], feed, 10, nothing, "standard input: 0 bytes of records", "the feed has no records")
-        says(["lookup", "10.0.0.1"], feed, out="10.0.0.1 has no route\n")
-        says(["lookup", "--table", "10.0.0.1"], feed, out="10.0.0.1 has no route\n")
+        says(["squeeze"], feed, err=figures(0, 1, SLOTS, 0), title=repr(feed))
+        says(["squeeze", "-q", "--to", "records"], feed, title=repr(feed))
+        says(["lookup", "10.0.0.1"], feed, out="10.0.0.1 is discarded\n")
+        says(["lookup", "--table", "10.0.0.1"], feed, out="10.0.0.1 is discarded\n")
     for arguments in (["show"], ["show", "--records"], ["pack", "--text"]):
         says(arguments)
     says(["squeeze"], "default via 64", out="0.0.0.0/0 via 64\n", err=figures(1, 1, SLOTS, 1))

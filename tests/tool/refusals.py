@@ -9,7 +9,7 @@ LENGTH = "the prefix length is over 32"
 BITS = "an address bit behind the prefix length is set"
 ACTION = "the action is neither 1, announce, nor 2, withdraw"
 NOT_ANNOUNCED = "the action is not 1, announce, and a list that is looked up has nothing else"
-HOP = "the hop is out of range: 1 to 64 to announce, 0 to withdraw"
+HOP = "the hop is out of range: 0 to 64 to announce, 0 to withdraw"
 NOT_HELD = "a prefix is withdrawn that is not held"
 PART = "the length of the list is no multiple of 8 bytes, so it ends in a part of a record"
 
@@ -21,7 +21,7 @@ BAD = [  # a line, its record, and the number and the words with which an update
     ("action 3 10.0.0.0/8 hop 5", (0x0A000000, 8, 3, 5), 6, ACTION),
     ("action 0 10.0.0.0/8 hop 65", (0x0A000000, 8, 0, 65), 6, ACTION),
     ("10.0.0.0/8 via 65", (0x0A000000, 8, 1, 65), 7, HOP),
-    ("10.0.0.0/8 via 0", (0x0A000000, 8, 1, 0), 7, HOP),
+    ("10.0.0.0/8 via 256", (0x0A000000, 8, 1, 256), 7, HOP),
     ("action 2 10.0.0.0/8 hop 1", (0x0A000000, 8, 2, 1), 7, HOP),
     ("withdraw 11.0.0.0/8", (0x0B000000, 8, 2, 0), 8, NOT_HELD),
 ]
@@ -71,11 +71,6 @@ def whole_calls():
                 refuses(arguments, good[:count], 1, words, where, "no record was applied")
     where = "standard input: 9 bytes of records"
     refuses(["squeeze"], packed([BAD[0][1]]) + b"\0", 3, PART, where, "no record was applied")
-    no_default = "no default route, 0.0.0.0/0, is held at the end, so no table is written"
-    for feed, size, done in (("10.0.0.0/8 via 5", 8, DONE[1]), ("default via 1\nwithdraw default", 16, DONE[2]),
-                             ("0.0.0.0/1 via 1\n128.0.0.0/1 via 1\n10.0.0.0/8 via 5", 24, DONE[3])):
-        where = "standard input: %d bytes of records" % size
-        refuses(["squeeze"], feed, 10, no_default, where, done + " applied, all of the feed")
 
 
 def slots():

@@ -1,5 +1,5 @@
 """The samples, against expected/ and against the plain programs of document 01."""
-from checks import figures, file, lines, packed, refuses, run, same, says
+from checks import answer, figures, file, lines, packed, refuses, run, same, says
 from plain import ALL, Ledger, dotted, longest, needs
 from smallest import smallest
 
@@ -14,12 +14,18 @@ def records_of(sample):
             withdrawn = words[0] == "withdraw"
             address, length = words[withdrawn].replace("default", "0.0.0.0/0").split("/")
             number = int.from_bytes(bytes(map(int, address.split("."))), "big")
-            records.append((number, int(length)) + ((2, 0) if withdrawn else (1, int(words[2]))))
+            hop = 0 if withdrawn or words[1] == "discard" else int(words[2])
+            records.append((number, int(length), 2 if withdrawn else 1, hop))
     return records
 
 
 def table_of(routes):
     return [(int(prefix.ljust(32, "0"), 2), len(prefix), 1, hop) for prefix, hop in smallest(routes)]
+
+
+def answers(routes, addresses):
+    """What the tool has to tell of these addresses, with these routes held."""
+    return "".join(answer(address, int(longest(routes, address).split()[1])) for address in addresses)
 
 
 def whole(sample):
@@ -44,17 +50,15 @@ def whole(sample):
     says(["pack", path], out=packed(records))
     says(["show"], packed(records), out=lines(records))
 
-    edges = {edge & ALL for address, length, _, _ in records for start in (address, address + (1 << (32 - length)))
-             for edge in (start - 1, start)}
-    answers = [(dotted(edge), longest(ledger.routes, edge).split()[1]) for edge in sorted(edges)]
-    addresses = [address for address, _ in answers]
-    told = "".join("%s via %s\n" % answer for answer in answers)
+    edges = sorted({edge & ALL for address, length, _, _ in records
+                    for start in (address, address + (1 << (32 - length))) for edge in (start - 1, start)})
+    addresses, told = [dotted(edge) for edge in edges], answers(ledger.routes, edges)
     says(["lookup", *addresses, path], out=told)
     says(["lookup", "--table", *addresses], expected, out=told, title="in the table:")
 
 
 def try_all():
-    for sample in ("case-c.txt", "branch-office.txt"):
+    for sample in ("case-c.txt", "branch-office.txt", "no-default.txt"):
         whole(sample)
     c = bytes.fromhex("00 00 00 00 00 01 00 02  40 00 00 00 02 01 00 01  C0 00 00 00 02 01 00 03")
     says(["squeeze", "-q", "--to", "records", "samples/case-c.txt"], out=c, title="document 01's bytes:")

@@ -3,7 +3,7 @@
 use crate::feed::Feed;
 use crate::words::{Call, Refusal};
 use doors::records::RECORD;
-use doors::{Counted, Memory};
+use doors::{Counted, Memory, SCRATCH_WORDS};
 
 /// Enough for most feeds, so that few are applied twice.
 const FIRST_SLOTS: usize = 4096;
@@ -26,7 +26,7 @@ impl Ledger {
 
     /// The smallest table. It never has more records than the feed, says the header, so that much output is lent.
     pub fn smallest(&self, feed: &Feed) -> Result<Vec<u8>, Refusal> {
-        let mut scratch = vec![0; self.slots()];
+        let mut scratch = vec![0; SCRATCH_WORDS * self.slots()];
         let mut output = vec![0; feed.records.len()];
         let written = self.memory.write(&mut scratch, &mut output);
         Refusal::unless(written.number, Call::Writing, written.count)?;

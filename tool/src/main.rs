@@ -82,12 +82,15 @@ fn squeeze(arguments: Arguments) -> Result<(), Stop> {
 
 fn figures(ledger: &Ledger, written: usize) -> String {
     let (held, used, slots) = (ledger.held(), ledger.used(), ledger.slots());
-    let ratio = 100.0 * written as f64 / held as f64;
+    let ratio = match held {
+        0 => "none".to_string(),
+        _ => format!("{:.1} %", 100.0 * written as f64 / held as f64),
+    };
     format!(
         "held routes      {held}\n\
          slots used       {used} of {slots}\n\
          written records  {written}\n\
-         ratio            {ratio:.1} %\n"
+         ratio            {ratio}\n"
     )
 }
 
@@ -122,7 +125,8 @@ fn addresses_and_file(operands: &[OsString]) -> Result<(Vec<u32>, Option<&OsStr>
 
 fn answers(feed: &Feed, addresses: &[u32], arguments: &Arguments) -> Result<Vec<String>, words::Refusal> {
     let line = |address: u32, hop: u32| match hop {
-        0 => format!("{} has no route\n", Ipv4Addr::from(address)),
+        // For want of a route or by a route that says so: the library answers 0 for both alike.
+        0 => format!("{} is discarded\n", Ipv4Addr::from(address)),
         hop => format!("{} via {hop}\n", Ipv4Addr::from(address)),
     };
     if arguments.table {

@@ -38,7 +38,7 @@ pub const COMMANDS: &[Command] = &[
     Command {
         name: "lookup",
         operands: "ADDRESS.. [FILE]",
-        about: "the hop of each address by longest match, once the feed is applied",
+        about: "the hop of each address by longest match, or that it is discarded, once the feed is applied",
         options: &["--text", "--records", "--table", "--slots", "--output"],
     },
 ];
@@ -99,8 +99,11 @@ A feed is a file, or standard input for none or `-`. It is text, one route a lin
 them, its bytes tell. In text, blank lines and what stands behind a # do not count:
 
   10.0.0.0/8 via 5             announce: to hop 5; `default via 1` is 0.0.0.0/0 via 1
+  10.0.0.0/8 discard           announce: to be discarded; `via 0` says the same
   withdraw 10.0.0.0/8          take back exactly this prefix
   action 3 10.0.0.0/8 hop 5    any other record, field by field, as `show` prints it
+
+Hops are 0 to 64, and hop 0 discards. An address without a route is discarded, too, so a feed needs no default route.
 ";
 
 const ENDINGS: &str = "\

@@ -6,7 +6,8 @@ use std::fmt::Write;
 use std::net::Ipv4Addr;
 use std::str::FromStr;
 
-const A_LINE: &str = "`10.0.0.0/8 via 5`, `withdraw 10.0.0.0/8`, or `action 3 10.0.0.0/8 hop 5` for other records";
+const A_LINE: &str = "`10.0.0.0/8 via 5`, `10.0.0.0/8 discard`, `withdraw 10.0.0.0/8`, \
+                      or `action 3 10.0.0.0/8 hop 5` for other records";
 const A_PREFIX: &str = "a prefix as 10.0.0.0/8, or `default` for 0.0.0.0/0";
 const A_BYTE: &str = "a number from 0 to 255 for a prefix length or an action";
 const A_HOP: &str = "a number from 0 to 65535 for a hop";
@@ -19,6 +20,7 @@ pub fn record(line: &str) -> Result<Option<Fields>, &'static str> {
         [] => return Ok(None),
         ["withdraw", at] => (WITHDRAW, at, 0),
         [at, "via", hop] => (ANNOUNCE, at, number(hop, A_HOP)?),
+        [at, "discard"] => (ANNOUNCE, at, 0),
         ["action", action, at, "hop", hop] => (number(action, A_BYTE)?, at, number(hop, A_HOP)?),
         _ => return Err(A_LINE),
     };
@@ -40,6 +42,7 @@ pub fn address(word: &str) -> Option<u32> {
 pub fn line(record: Fields) -> String {
     let at = format!("{}/{}", Ipv4Addr::from(record.address), record.length);
     match (record.action, record.hop) {
+        (ANNOUNCE, 0) => format!("{at} discard"),
         (ANNOUNCE, hop) => format!("{at} via {hop}"),
         (WITHDRAW, 0) => format!("withdraw {at}"),
         (action, hop) => format!("action {action} {at} hop {hop}"),

@@ -27,7 +27,7 @@ impl Refusal {
         }
     }
 
-    /// 1, 2, 3, 10 and 11 are not about one record.
+    /// 1, 2, 3 and 11 are not about one record.
     pub fn of_whole_call(&self) -> bool {
         !(4..=9).contains(&self.number)
     }
@@ -56,10 +56,9 @@ impl Refusal {
             (5, _) => "an address bit behind the prefix length is set",
             (6, Call::ListLookup) => "the action is not 1, announce, and a list that is looked up has nothing else",
             (6, _) => "the action is neither 1, announce, nor 2, withdraw",
-            (7, _) => "the hop is out of range: 1 to 64 to announce, 0 to withdraw",
+            (7, _) => "the hop is out of range: 0 to 64 to announce, 0 to withdraw",
             (8, _) => "a prefix is withdrawn that is not held",
             (9, Call::Update { slots }) => return format!("the routes need more slots than the {slots} that are lent"),
-            (10, _) => "no default route, 0.0.0.0/0, is held at the end, so no table is written",
             (11, _) => {
                 return format!(
                     "the output lent has no room for the {} records of the table",
@@ -75,7 +74,6 @@ impl Refusal {
         match self.call {
             Call::Update { .. } if self.of_whole_call() => "no record was applied".to_string(),
             Call::Update { .. } => format!("{} applied before it", records(self.count)),
-            Call::Writing | Call::Lookup if feed.count() == 0 => "the feed has no records".to_string(),
             Call::Writing | Call::Lookup => format!("{} applied, all of the feed", records(feed.count() as u64)),
             Call::ListLookup if self.of_whole_call() => "no record was read".to_string(),
             Call::ListLookup => format!("{} read before it", records(self.count)),

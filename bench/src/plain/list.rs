@@ -1,6 +1,7 @@
 //! Lookup in a list of announcements, in one pass.
 
-use super::{record, refusal};
+use super::record::{self, DISCARD};
+use super::refusal;
 use doors::Found;
 
 pub fn lookup(list: &[u8], address: u32) -> Found {
@@ -8,7 +9,7 @@ pub fn lookup(list: &[u8], address: u32) -> Found {
     if !rest.is_empty() {
         return refused(refusal::BAD_LIST_LENGTH, 0);
     }
-    let mut best = 0;
+    let mut best = DISCARD;
     let mut longest = 0;
     for (place, bytes) in records.iter().enumerate() {
         match record::read_announcement(*bytes) {

@@ -23,11 +23,11 @@ const NONE: u32 = 0;
 #[derive(Clone, Copy)]
 struct Node {
     children: [u32; 2],
-    /// The hop held for this prefix; 0 where none is.
-    hop: u32,
+    /// The hop held for this prefix and 1; 0 where none is. An `Option` of a hop makes lookups slower.
+    held: u32,
 }
 
-const EMPTY: Node = Node { children: [NONE; 2], hop: 0 };
+const EMPTY: Node = Node { children: [NONE; 2], held: 0 };
 
 pub struct Ledger {
     nodes: Vec<Node>,
@@ -67,19 +67,19 @@ impl Ledger {
         Counted { number: 0, count: records.len() as u64 }
     }
 
-    /// The hop of the longest prefix held that begins the address; 0 for no route.
+    /// The hop of the longest prefix held that begins the address; discard, which is 0, where there is none.
     pub fn lookup(&self, address: u32) -> Found {
         let mut node = &self.nodes[ROOT as usize];
-        let mut hop = node.hop;
+        let mut held = node.held;
         let mut bits = address;
         loop {
             let child = node.children[first_bit(bits)];
             if child == NONE {
-                return Found { number: 0, hop, place: 0 };
+                return Found { number: 0, hop: held.saturating_sub(1), place: 0 };
             }
             node = &self.nodes[child as usize];
-            if node.hop != 0 {
-                hop = node.hop;
+            if node.held != 0 {
+                held = node.held;
             }
             bits <<= 1;
         }
@@ -114,7 +114,7 @@ impl Ledger {
             at = child;
             bits <<= 1;
         }
-        self.nodes[at as usize].hop = hop;
+        self.nodes[at as usize].held = hop + 1;
         Ok(())
     }
 
@@ -126,7 +126,7 @@ impl Ledger {
         for _ in 0..prefix.length {
             let node = &self.nodes[at as usize];
             let side = first_bit(bits);
-            if node.hop != 0 || node.children[1 - side] != NONE {
+            if node.held != 0 || node.children[1 - side] != NONE {
                 fork = (at, side);
             }
             at = node.children[side];
@@ -136,10 +136,10 @@ impl Ledger {
             bits <<= 1;
         }
         let node = &mut self.nodes[at as usize];
-        if node.hop == 0 {
+        if node.held == 0 {
             return Err(refusal::NOT_HELD);
         }
-        node.hop = 0;
+        node.held = 0;
         if at != ROOT && node.children == [NONE; 2] {
             self.cut(fork.0, fork.1);
         }

@@ -3,9 +3,10 @@
 use super::refusal;
 use doors::records::{Fields, ANNOUNCE, RECORD, WITHDRAW};
 
-/// The hops that may be announced are 1 to this.
+/// The hop of an address without a route. It may be announced too.
+pub const DISCARD: u32 = 0;
+/// The hops that may be announced are 0 to this.
 pub const HIGHEST_HOP: u16 = 64;
-const HOPS: std::ops::RangeInclusive<u16> = 1..=HIGHEST_HOP;
 
 /// For each length that a prefix may have, its highest bits.
 const MASKS: [u32; 33] = {
@@ -68,7 +69,7 @@ pub fn read_announcement(record: [u8; RECORD]) -> Result<(Prefix, u32), u32> {
 }
 
 fn announced(hop: u16) -> Result<u32, u32> {
-    if HOPS.contains(&hop) {
+    if hop <= HIGHEST_HOP {
         Ok(u32::from(hop))
     } else {
         Err(refusal::BAD_HOP)

@@ -8,5 +8,4 @@ pub const BAD_ACTION: u32 = 6;
 pub const BAD_HOP: u32 = 7;
 pub const NOT_HELD: u32 = 8;
 pub const NO_SLOTS: u32 = 9;
-pub const NO_DEFAULT: u32 = 10;
 pub const SHORT_OUTPUT: u32 = 11;

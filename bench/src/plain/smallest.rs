@@ -1,27 +1,26 @@
-//! The smallest table: sets of hops upward, entries downward. A set is a word with bit h - 1 for hop h; so is one hop.
+//! The smallest table: sets of hops upward, entries downward.
 
+use super::record::DISCARD;
 use super::{refusal, Ledger, Node, NONE, ROOT};
 use doors::records::{Fields, RECORD};
-use doors::Counted;
+use doors::{Counted, SCRATCH_WORDS};
 
 impl Ledger {
-    /// Writes the smallest table into `out`. The scratch has a word for each slot and is left zero.
+    /// Writes the smallest table into `out`. The scratch is left zero.
     pub fn write(&self, scratch: &mut [u64], out: &mut [u8]) -> Counted {
-        if scratch.len() != self.slots {
+        if scratch.len() != SCRATCH_WORDS * self.slots {
             return Counted { number: refusal::BAD_SCRATCH, count: 0 };
         }
-        if self.nodes[ROOT as usize].hop == 0 {
-            return Counted { number: refusal::NO_DEFAULT, count: 0 };
-        }
-        let mut sets = Sets { nodes: &self.nodes, scratch, splits: 0 };
-        sets.form(ROOT, 0);
-        let count = sets.splits + 1;
+        let (words, _) = scratch.as_chunks_mut();
+        let mut sets = Sets { nodes: &self.nodes, words, splits: 0 };
+        let top = sets.form(ROOT, DISCARD);
+        let count = sets.splits + usize::from(!top.has(DISCARD));
         let (records, _) = out.as_chunks_mut();
         let number = if records.len() < count {
             refusal::SHORT_OUTPUT
         } else {
-            let mut table = Table { nodes: &self.nodes, sets: scratch, records: records.iter_mut() };
-            table.enter(ROOT, 0, 0, 0, 0);
+            let mut table = Table { nodes: &self.nodes, words, records: records.iter_mut() };
+            table.enter(ROOT, DISCARD, DISCARD, 0, 0);
             0
         };
         scratch.fill(0);
@@ -29,14 +28,61 @@ impl Ledger {
     }
 }
 
-impl Node {
-    /// The hop in force here, as a set.
-    fn hop_below(&self, above: u64) -> u64 {
-        if self.hop == 0 {
-            above
-        } else {
-            1 << (self.hop - 1)
+/// A set of hops: a word with bit h - 1 for hop h, and discard beside it.
+#[derive(Clone, Copy)]
+struct Hops {
+    word: u64,
+    discard: bool,
+}
+
+impl Hops {
+    fn only(hop: u32) -> Hops {
+        match hop.checked_sub(1) {
+            Some(bit) => Hops { word: 1 << bit, discard: false },
+            None => Hops { word: 0, discard: true },
         }
+    }
+
+    fn has(self, hop: u32) -> bool {
+        match hop.checked_sub(1) {
+            Some(bit) => self.word >> bit & 1 == 1,
+            None => self.discard,
+        }
+    }
+
+    fn least(self) -> u32 {
+        if self.discard {
+            DISCARD
+        } else {
+            self.word.trailing_zeros() + 1
+        }
+    }
+
+    fn is_empty(self) -> bool {
+        self.word == 0 && !self.discard
+    }
+
+    fn common(self, other: Hops) -> Hops {
+        Hops { word: self.word & other.word, discard: self.discard & other.discard }
+    }
+
+    fn union(self, other: Hops) -> Hops {
+        Hops { word: self.word | other.word, discard: self.discard | other.discard }
+    }
+
+    fn words(self) -> [u64; SCRATCH_WORDS] {
+        [self.word, u64::from(self.discard)]
+    }
+
+    fn of([word, discard]: [u64; SCRATCH_WORDS]) -> Hops {
+        Hops { word, discard: discard != 0 }
+    }
+}
+
+impl Node {
+    /// The hop in force here.
+    fn hop_below(&self, above: u32) -> u32 {
+        self.held.checked_sub(1).unwrap_or(above)
     }
 
     fn is_leaf(&self) -> bool {
@@ -46,42 +92,48 @@ impl Node {
 
 struct Sets<'a> {
     nodes: &'a [Node],
-    scratch: &'a mut [u64],
+    words: &'a mut [[u64; SCRATCH_WORDS]],
     /// The nodes so far whose children's sets have nothing in common: each costs an entry.
     splits: usize,
 }
 
 impl Sets<'_> {
-    fn form(&mut self, at: u32, above: u64) -> u64 {
+    fn form(&mut self, at: u32, above: u32) -> Hops {
         let node = &self.nodes[at as usize];
         let here = node.hop_below(above);
         let set = if node.is_leaf() {
-            here
+            Hops::only(here)
         } else {
-            let [zero, one] = node.children.map(|child| if child == NONE { here } else { self.form(child, here) });
-            if zero & one == 0 {
+            let [zero, one] =
+                node.children.map(|child| if child == NONE { Hops::only(here) } else { self.form(child, here) });
+            let common = zero.common(one);
+            if common.is_empty() {
                 self.splits += 1;
-                zero | one
+                zero.union(one)
             } else {
-                zero & one
+                common
             }
         };
-        self.scratch[at as usize] = set;
+        self.words[at as usize] = set.words();
         set
     }
 }
 
 struct Table<'a> {
     nodes: &'a [Node],
-    sets: &'a [u64],
+    words: &'a [[u64; SCRATCH_WORDS]],
     records: std::slice::IterMut<'a, [u8; RECORD]>,
 }
 
 impl Table<'_> {
     /// The entries from a node on. `above` is in force above it in the ledger, `chosen` in the table.
-    fn enter(&mut self, at: u32, above: u64, chosen: u64, address: u32, length: u8) {
+    fn enter(&mut self, at: u32, above: u32, mut chosen: u32, address: u32, length: u8) {
         let node = &self.nodes[at as usize];
-        let chosen = self.choose(self.sets[at as usize], chosen, address, length);
+        let set = Hops::of(self.words[at as usize]);
+        if !set.has(chosen) {
+            chosen = set.least();
+            self.entry(address, length, chosen);
+        }
         // A leaf's set is its one hop, which now is in force.
         if node.is_leaf() {
             return;
@@ -89,22 +141,16 @@ impl Table<'_> {
         let here = node.hop_below(above);
         let sides = [address, address | 1 << (31 - length)];
         for (child, address) in node.children.into_iter().zip(sides) {
-            if child == NONE {
-                self.choose(here, chosen, address, length + 1);
-            } else {
+            if child != NONE {
                 self.enter(child, here, chosen, address, length + 1);
+            } else if here != chosen {
+                self.entry(address, length + 1, here);
             }
         }
     }
 
-    /// The hop in force for a prefix with this set: the one above if that will do, else an entry with the set's least.
-    fn choose(&mut self, set: u64, chosen: u64, address: u32, length: u8) -> u64 {
-        if set & chosen != 0 {
-            return chosen;
-        }
-        let hop = set.trailing_zeros();
+    fn entry(&mut self, address: u32, length: u8, hop: u32) {
         let record = self.records.next().expect("the records were counted before");
-        *record = Fields::announcement(address, length, hop as u16 + 1).bytes();
-        1 << hop
+        *record = Fields::announcement(address, length, hop as u16).bytes();
     }
 }

@@ -1,12 +1,12 @@
--- The C door's promises fix the answer and the output; and what the number says: 0 that the call succeeded, else the refusal, 3 to 7 and
--- 3 to 11. A refusal leaves every byte of the output.
+-- The C door's promises fix the answer and the output; and what the number says: 0 that the call succeeded, else the refusal, 3 to 7 of a
+-- lookup, 3 to 9 or 11 of a table. A refusal leaves every byte of the output.
 use mathlib.Core.Path.{_≡_, refl, sym, ap, _∙_}
 use mathlib.Core.List.{List}
 use mathlib.Core.Option.{Option, none, some}
 use Prim.Native.Nat.{ℕ, _≤_}
 use native.Mathlib.Omega.{arith}
 use lib.ListN.{length}
-use Rattle.rules.specs.Numbers.{ipv4, ownSlots, badListLength, badHop, shortOutput}
+use Rattle.rules.specs.Numbers.{ipv4, ownSlots, badListLength, badHop, noSlots, shortOutput}
 use Rattle.rules.specs.Lookup.{lookedUp}
 use Rattle.rules.proofs.Numbered.{looked-up-between}
 use Rattle.fresh.specs.Promise.{tableOf}
@@ -14,7 +14,7 @@ use Rattle.fresh.proofs.Promise.{refused-leaves, table-between, enough-room, le
 use Rattle.answers.specs.declared.FoundAnswer.{FoundAnswer}
 use Rattle.answers.specs.declared.CountAnswer.{CountAnswer}
 use Rattle.answers.specs.Answers.{numberOf}
-use Rattle.answers.proofs.Answers.{Numbered, numbered, zero-is-success}
+use Rattle.answers.proofs.Answers.{Numbered, NumberedOrShort, numbered, zero-is-success, numbered-or-short, zero-is-written}
 use Rattle.arvandish.specs.Promise.{LooksUpForC, TablesForC}
 
 -- ONE ANSWER
@@ -41,11 +41,11 @@ module _ (list output output' : List ℕ) (r : CountAnswer) (meets : TablesForC 
   is-told : r .number ≡ numberOf (tableOf ownSlots list output .refusal)
   is-told = ap (λ a. a .number) (meets .answer)
 
-  pub table-number : Numbered badListLength shortOutput (r .number)
-  table-number = numbered badListLength shortOutput (tableOf ownSlots list output .refusal) (r .number) is-told (table-between ownSlots list output)
+  pub table-number : NumberedOrShort badListLength noSlots (r .number)
+  table-number = numbered-or-short badListLength noSlots (tableOf ownSlots list output .refusal) (r .number) is-told (table-between ownSlots list output)
 
   pub table-0 : r .number ≡ 0 → tableOf ownSlots list output .refusal ≡ none
-  table-0 = zero-is-success badListLength shortOutput (tableOf ownSlots list output .refusal) (r .number) (omega arith) is-told (table-between ownSlots list output)
+  table-0 = zero-is-written badListLength noSlots (tableOf ownSlots list output .refusal) (r .number) (omega arith) is-told (table-between ownSlots list output)
 
   -- ANY REFUSAL LEAVES THE OUTPUT AS IT WAS, every byte
   pub refusal-leaves : (r .number ≡ 0 → ⊥) → output' ≡ output

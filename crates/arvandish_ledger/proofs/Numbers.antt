@@ -1,6 +1,6 @@
--- What the ledger door's number says: 0 that the call succeeded, else the refusal: 1 to 9 of an update, 1 or 2 of a lookup, 1 to 11 of a
--- writing.
-use mathlib.Core.Path.{_≡_, ap, _∙_}
+-- What the ledger door's number says: 0 that the call succeeded, else the refusal: 1 to 9 of an update, 1 or 2 of a lookup, 1, 2 or 11
+-- of a writing.
+use mathlib.Core.Path.{_≡_, refl, ap, _∙_}
 use mathlib.Core.Logic.{inl, inr}
 use mathlib.Core.Bool.{not, _||_}
 use mathlib.Core.List.{List, [], _∷_}
@@ -9,21 +9,21 @@ use Prim.Native.Nat.{ℕ}
 use native.Mathlib.Omega.{arith}
 use lib.Dec.{eqb, ltb}
 use lib.ListN.{length}
-use Rattle.theory.specs.Ledger.{isHeld}
+use Rattle.theory.specs.Ledger.{Entry}
 use Rattle.theory.proofs.Hops.{by-test}
-use Rattle.rules.specs.Numbers.{ipv4, width, scratchWords, badSlices, noLedger, badListLength, noSlots, shortOutput}
+use Rattle.rules.specs.Numbers.{ipv4, width, scratchWords, badSlices, noLedger, badListLength, noSlots}
 use Rattle.rules.specs.Records.{_refusedBy_}
 use Rattle.rules.specs.Plain.{updated}
-use Rattle.rules.specs.Writing.{smallestTable, written}
-use Rattle.rules.proofs.Numbered.{Between, first-between, update-between}
+use Rattle.rules.specs.Writing.{smallestTable}
+use Rattle.rules.proofs.Numbered.{Between, BetweenOrShort, first-between, update-between}
 use Rattle.memory.specs.Layout.{Memory, slots, ledgerOf, holdsLedger}
 use Rattle.lent.specs.Lent.{badLent, lentFault}
 use Rattle.ledger.specs.Promise.{afterFault, updateOf, foundAfter}
-use Rattle.writing.specs.Promise.{bytesFor, writtenInto, writeFault, writeAfter, writeOf}
+use Rattle.writing.specs.Promise.{bytesFor, intoOutput, writeFault, writeAfter, writeOf}
 use Rattle.answers.specs.declared.FoundAnswer.{FoundAnswer}
 use Rattle.answers.specs.declared.CountAnswer.{CountAnswer}
 use Rattle.answers.specs.Answers.{numberOf}
-use Rattle.answers.proofs.Answers.{Numbered, wider, numbered, zero-is-success, told-beside}
+use Rattle.answers.proofs.Answers.{Numbered, NumberedOrShort, wider, numbered, zero-is-success, numbered-or-short, zero-is-written, told-beside}
 use Rattle.arvandish_ledger.specs.Promise.{UpdatesToC, LooksUpToC, WritesToC}
 
 -- the rules 1 and 2
@@ -75,7 +75,7 @@ module _ (m : Memory) (x : ℕ) where
     pub lookup-0 : r .number ≡ 0 → foundAfter (lentFault m) m x .refusal ≡ none
     lookup-0 = zero-is-success badSlices noLedger (foundAfter (lentFault m) m x .refusal) (r .number) (omega arith) lookup-told lookup-range
 
--- WRITING: 1 to 11
+-- WRITING: 1, 2 and 11
 module _ (m : Memory) (scratch output : List ℕ) where
   write-fault-range : Between badSlices noLedger (writeFault m scratch)
   unfolding writeFault
@@ -86,25 +86,16 @@ module _ (m : Memory) (scratch output : List ℕ) where
       ∷ [])
       ((omega arith, omega arith), ((omega arith, omega arith), tt))
 
-  write-range : Between badSlices shortOutput (writeOf m scratch output .refusal)
+  write-range : BetweenOrShort badSlices noLedger (writeOf m scratch output .refusal)
   unfolding writeOf
   write-range = go (writeFault m scratch) write-fault-range
     where
-      into : Between badSlices shortOutput (writtenInto (written ipv4 (ledgerOf (width ipv4) m)) scratch output .refusal)
-      into =
-          let L = ledgerOf (width ipv4) m in
-          elim (by-test (isHeld (L []))) [
-            | inr none-held ↦ rw none-held (omega arith, omega arith)
-            | inl held ↦
-                elim (by-test (ltb (length output) (bytesFor (smallestTable ipv4 L)))) [
-                  | inl short ↦ rw (held, short) (omega arith, omega arith)
-                  | inr fits ↦ rw (held, fits) tt
-                ]
-          ]
+      into : (T : List Entry) → BetweenOrShort badSlices noLedger (intoOutput T scratch output .refusal)
+      into T = elim (by-test (ltb (length output) (bytesFor T))) [ inl short ↦ rw short (inr refl) | inr fits ↦ rw fits tt ]
 
-      go : (f : Option ℕ) → Between badSlices noLedger f → Between badSlices shortOutput (writeAfter f m scratch output .refusal)
-      go none in-range = into
-      go (some x) in-range = wider badSlices noLedger badSlices shortOutput (some x) (omega arith) (omega arith) in-range
+      go : (f : Option ℕ) → Between badSlices noLedger f → BetweenOrShort badSlices noLedger (writeAfter f m scratch output .refusal)
+      go none in-range = into (smallestTable ipv4 (ledgerOf (width ipv4) m))
+      go (some x) in-range = inl in-range
 
   module _ (scratch' output' : List ℕ) (r : CountAnswer) (meets : WritesToC m scratch output scratch' output' r) where
     write-told : r .number ≡ numberOf (writeOf m scratch output .refusal)
@@ -112,8 +103,8 @@ module _ (m : Memory) (scratch output : List ℕ) where
         ap (λ a. a .number) (meets .told .told ∙ told-beside (meets .answer) scratch' output')
         ∙ ap (λ w. numberOf (w .refusal)) (meets .meets .outcome)
 
-    pub write-number : Numbered badSlices shortOutput (r .number)
-    write-number = numbered badSlices shortOutput (writeOf m scratch output .refusal) (r .number) write-told write-range
+    pub write-number : NumberedOrShort badSlices noLedger (r .number)
+    write-number = numbered-or-short badSlices noLedger (writeOf m scratch output .refusal) (r .number) write-told write-range
 
     pub write-0 : r .number ≡ 0 → writeOf m scratch output .refusal ≡ none
-    write-0 = zero-is-success badSlices shortOutput (writeOf m scratch output .refusal) (r .number) (omega arith) write-told write-range
+    write-0 = zero-is-written badSlices noLedger (writeOf m scratch output .refusal) (r .number) (omega arith) write-told write-range

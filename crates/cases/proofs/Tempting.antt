@@ -1,12 +1,14 @@
 -- Tables that forward alike but are not the smallest, and one that does not forward alike, do not meet what is promised.
 use mathlib.Core.Path.{_≡_, refl, ap, subst}
+use mathlib.Core.List.{[], _∷_}
 use Prim.Native.Nat.{ℕ, _≤_}
 use native.Mathlib.Omega.{arith}
+use Rattle.theory.specs.Ledger.{_via_}
 use Rattle.rules.specs.Numbers.{ipv4}
 use Rattle.rules.specs.Records.{read, strayBits, printTable}
 use Rattle.rules.specs.Lookup.{hopOf}
 use Rattle.rules.specs.Writing.{ForwardsAs, SmallestFor}
-use Rattle.cases.specs.Cases.{after, caseC, tableC, bytesC, copyOfC, caseE, tableE, heldOnly}
+use Rattle.cases.specs.Cases.{after, caseC, tableC, bytesC, copyOfC, caseE, tableE, caseBelow, tableBelow, heldOnly}
 use Rattle.cases.proofs.Cases.{cases-hold, after-in}
 
 -- C's table whole, byte by byte
@@ -25,3 +27,17 @@ forgetful-does-not-agree agrees =
     let agrees-in = subst (λ L. ForwardsAs ipv4 L (heldOnly L tableE)) same agrees in
     let wrong : _≡_ {A = ℕ} 1 2 = agrees-in 0 (omega arith) in
     omega arith
+
+-- a writer that takes a held discard for no route at all: it no longer hides * 1, and address 0, which is discarded, goes to hop 1
+pub unhidden-does-not-agree : ForwardsAs ipv4 (after caseBelow .ledger) ([] via 1 ∷ []) → ⊥
+unfolding read strayBits hopOf
+unhidden-does-not-agree agrees =
+    let same = ap (λ a. a .ledger) (after-in caseBelow .0) in
+    let agrees-in = subst (λ L. ForwardsAs ipv4 L ([] via 1 ∷ [])) same agrees in
+    let wrong : _≡_ {A = ℕ} 1 0 = agrees-in 0 (omega arith) in
+    omega arith
+
+-- a writer that always gives the empty string an entry: it has one more than the table, which forwards alike
+pub always-a-default-is-not-smallest : SmallestFor ipv4 (after caseBelow .ledger) ([] via 0 ∷ tableBelow) → ⊥
+always-a-default-is-not-smallest s =
+    let few : 2 ≤ 1 = s .fewest tableBelow (cases-hold .1 .1 .1 .1 .1 .1 .1 .1 .1 .1 .1 .1 .1 .1 .1 .1 .0 .lookups) in omega arith

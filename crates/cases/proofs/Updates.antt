@@ -61,7 +61,7 @@ room-in w slots t e =
 change-in : (w slots : ℕ) (t : Trie) (c : Change) → within hopBound w t ≡ true → ProperChange w c
     → (change w slots (asLedger t) c ≡ image (changeIn slots t c)) × Good w (changeIn slots t c)
 change-in w slots t (announces p h) e ok =
-    let in-range : ltb h hopBound ≡ true = lt-ltb h hopBound (omega (arith, ok .1 .1)) in
+    let in-range : ltb h hopBound ≡ true = lt-ltb h hopBound (omega (arith, ok .1)) in
     let r = room-in w slots (put p (some h) t) (put-within hopBound w p (some h) t (ok .0) in-range e) in
     (ap (ifRoom w slots) (sym (put-is p (some h) t)) ∙ r .0, r .1)
 change-in w slots t (withdraws p) e ok =

@@ -11,9 +11,8 @@ use Rattle.theory.specs.Bits.{Bits}
 use Rattle.theory.specs.Hops.{Hops}
 use Rattle.theory.specs.Ledger.{Ledger, Entry, isHeld, orElse}
 use Rattle.theory.specs.Smallest.{here, under}
-use Rattle.rules.specs.Numbers.{hopBound, noRoute, notHeld, noSlots, noDefault}
+use Rattle.rules.specs.Numbers.{discard, hopBound, noRoute, notHeld, noSlots}
 use Rattle.rules.specs.Records.{Change, announces, withdraws, Reading, means, faulty}
-use Rattle.rules.specs.Writing.{Written, writes, refuses}
 
 -- bare: nothing is held from here on
 pub data Trie : Type 0 where
@@ -112,8 +111,8 @@ tableIn n (node o l r) d c =
     ++ (under false (tableIn n l (orElse o d) (chooseIn (setIn n (node o l r) d) c))
     ++ under true (tableIn n r (orElse o d) (chooseIn (setIn n (node o l r) d) c)))
 
-abbrev pub writtenIn : Trie → Written
-writtenIn t = cond (isHeld (asLedger t [])) (writes (tableIn hopBound t noRoute noRoute)) (refuses noDefault)
+abbrev pub smallestIn : Trie → List Entry
+smallestIn t = tableIn hopBound t noRoute discard
 
 -- updates
 pub data OutcomeIn : Type 0 where

@@ -10,7 +10,7 @@ use Rattle.theory.specs.Bits.{Bits}
 use Rattle.memory.specs.Layout.{Memory, slots, Whole, link, mark, child, find, readHop, ledgerOf}
 use Rattle.memory.specs.Tidy.{bare, Chained, Free, Used, TidyBut, Tidy}
 use Rattle.memory.proofs.Find.{Counts, same-or, counts-of, parent-below, none-of, mark-parent, mark-side, mark-positive, one-string}
-use Rattle.memory.proofs.Ledger.{hop-low}
+use Rattle.memory.proofs.Ledger.{hop-none}
 use Rattle.memory.proofs.Chain.{chain-freed}
 use Rattle.memory.proofs.Bare.{bare-hop, bare-leaf}
 use Rattle.editing.specs.Edits.{Dropped}
@@ -79,7 +79,7 @@ module _ (w : ℕ) (m m' : Memory) (p : ℕ) (b : Bool) (k : ℕ) (s0 : Bits) (w
   pub dropped-ledger : ledgerOf w m' ≡ ledgerOf w m
   dropped-ledger =
       ledger-kept w m m' whole (dropped .kept .whole) k (λ s. ⊥) dropped-edit (dropped .other-hops)
-      (ap readHop (dropped .no-hop) ∙ hop-low 0 (omega arith)) (λ s l e. bare-hop m (w - length (b ∷ s0)) k unheld)
+      (ap readHop (dropped .no-hop) ∙ hop-none) (λ s l e. bare-hop m (w - length (b ∷ s0)) k unheld)
 
   string-kept : (s : Bits) → length s ≤ w → (find (m .tree) s ≡ k → ⊥) → find (m' .tree) s ≡ find (m .tree) s
   string-kept s l not-k =

@@ -15,7 +15,7 @@ use Rattle.rules.specs.Plain.{needs}
 use Rattle.memory.specs.Path.{pathBits}
 use Rattle.memory.specs.Layout.{Memory, slots, Shaped, find, readHop, hopAt, ledgerOf}
 use Rattle.memory.specs.Reach.{Reaches}
-use Rattle.memory.proofs.Ledger.{hop-low, hop-stored, ledger-front, no-hop}
+use Rattle.memory.proofs.Ledger.{hop-none, hop-stored, ledger-front, no-hop}
 use Rattle.editing.specs.Edits.{rehop}
 use Rattle.editing.specs.Routes.{CanWithdraw, CanAnnounce, OnPath, AtEnd, Reworked, Extended, Stuck, Step, Announced, Withdrawn}
 use Rattle.editing.proofs.Setting.{rehop-kept, rehop-announce, rehop-withdraw, rehop-tidy, rehop-done, tidy-but}
@@ -98,7 +98,7 @@ module _ (w : ℕ) (a : Memory) (size h : ℕ) (can : CanAnnounce w a size h) wh
     stored : readHop (h + 1) ≡ some h
     stored =
         let plain : h + 1 - 1 ≡ h = omega arith in
-        hop-stored (h + 1) (omega (arith, can .may .0)) (omega (arith, can .may .1)) ∙ ap some plain
+        hop-stored (h + 1) (omega arith) (omega (arith, can .may)) ∙ ap some plain
 
     pub announce-taken : d ≡ size → Announced w a (rehop m slot (h + 1)) (prefixOf f size) h true
     announce-taken e =
@@ -149,7 +149,7 @@ module _ (w : ℕ) (m : Memory) (f : ℕ → Bool) (size slot : ℕ) (can : CanW
           taken = λ q. (
             ap isHeld its-hop ∙ e,
             back .same-ledger
-                ∙ rehop-withdraw w m slot 0 (can .whole) below (front f size) (sym there) short (hop-low 0 (omega arith)),
+                ∙ rehop-withdraw w m slot 0 (can .whole) below (front f size) (sym there) short hop-none,
           );
           refused = λ q. true-false q;
           tidied = λ t.

@@ -14,7 +14,7 @@ use Rattle.theory.proofs.Hops.{never}
 use Rattle.memory.specs.Layout.{Tree, Memory, slots, Shaped, Whole, link, mark, child, find, readHop, hopAt, ledgerOf}
 use Rattle.memory.specs.Tidy.{bare, headOf, Chained, Free, Used, TidyBut}
 use Rattle.memory.proofs.Find.{Counts, same-or, not-none, child-counts, counts-of, none-of, mark-parent, mark-side, mark-positive, one-string}
-use Rattle.memory.proofs.Ledger.{hop-low}
+use Rattle.memory.proofs.Ledger.{hop-none}
 use Rattle.memory.proofs.Chain.{chained-head, chain-taken}
 use Rattle.memory.proofs.Bare.{bare-hop, bare-leaf, busy-child, busy-hop, busy-why}
 use Rattle.editing.specs.Spare.{idle, Hinted}
@@ -149,7 +149,7 @@ module _ (w : ℕ) (m m' : Memory) (p : ℕ) (b : Bool) (k : ℕ) (s0 : Bits) (w
   pub hung-ledger : ledgerOf w m' ≡ ledgerOf w m
   hung-ledger =
       ledger-kept w m m' whole (hung .kept .whole) k (λ s. s ≡ b ∷ s0) hung-edit (hung .other-hops)
-      (ap readHop (hung .no-hop) ∙ hop-low 0 (omega arith))
+      (ap readHop (hung .no-hop) ∙ hop-none)
       (λ s l e. bare-hop m (w - length s) k (idle-bare w m k (whole .shaped) slot-k unused s l e))
 
   -- a string whose slot is another one keeps it

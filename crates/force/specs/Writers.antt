@@ -1,4 +1,4 @@
--- The writers that are tried: the definitions, and two that document 01 calls tempting and wrong, each with one thing changed.
+-- The writers that are tried: the definitions, and three that are tempting and wrong, each with one thing changed.
 use mathlib.Core.Bool.{true, false, cond}
 use mathlib.Core.List.{List, [], _++_}
 use mathlib.Core.Option.{Option, none, some}
@@ -26,15 +26,19 @@ rowLeaves w row a = only (hopAt w row a)
 
 -- the definitions themselves
 abbrev pub byDefinition : Writer
-byDefinition w hops row = table (suc hops) w (rowLeaves w row) 0
+byDefinition w highest row = table (suc highest) w (rowLeaves w row) 0
 
 -- always taking the union of the children's sets
 abbrev pub alwaysUnion : Writer
-alwaysUnion w hops row = tableBy union (entry (suc hops)) w (rowLeaves w row) 0
+alwaysUnion w highest row = tableBy union (entry (suc highest)) w (rowLeaves w row) 0
 
 -- choosing a string's least hop although the one in force above is in its set
 abbrev leastRule : ℕ → Hops → ℕ → Option ℕ
 leastRule n x d = cond (eqb (least n x) d) none (some (least n x))
 
 abbrev pub leastAlways : Writer
-leastAlways w hops row = tableBy (join (suc hops)) (leastRule (suc hops)) w (rowLeaves w row) 0
+leastAlways w highest row = tableBy (join (suc highest)) (leastRule (suc highest)) w (rowLeaves w row) 0
+
+-- always giving the empty string an entry, as though no hop were in force above it
+abbrev pub alwaysTop : Writer
+alwaysTop w highest row = table (suc highest) w (rowLeaves w row) (suc highest)

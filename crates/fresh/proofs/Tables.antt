@@ -1,20 +1,19 @@
 -- A list applied to zeroed memory and a table written from there: the answer is that of the plain ledger, since zeroed memory is the
 -- empty ledger and the memory that an update leaves is let through.
-use mathlib.Core.Path.{_≡_, refl, sym, ap, ap₂, subst, _∙_}
+use mathlib.Core.Path.{_≡_, sym, ap, ap₂, subst, _∙_}
 use mathlib.Core.Logic.{inl, inr}
-use mathlib.Core.Bool.{cond}
 use mathlib.Core.List.{List, []}
 use mathlib.Core.Option.{none, some}
 use Prim.Native.Nat.{ℕ, _≤_, _<_}
 use lib.Dec.{ltb}
 use native.Mathlib.Omega.{arith}
 use lib.ListN.{length, length-replicate}
-use borrow.Author.Tests.{ltb-true, ltb-false, eq-eqb, ne-eqb}
-use Rattle.theory.specs.Ledger.{Entry, isHeld, nothing}
+use borrow.Author.Tests.{ltb-true, ltb-false}
+use Rattle.theory.specs.Ledger.{Entry, nothing}
 use Rattle.theory.proofs.Hops.{by-test}
-use Rattle.rules.specs.Numbers.{ipv4, width, mostSlots, scratchWords, noDefault}
+use Rattle.rules.specs.Numbers.{ipv4, width, mostSlots, scratchWords}
 use Rattle.rules.specs.Plain.{Applied, updated}
-use Rattle.rules.specs.Writing.{smallestTable, written}
+use Rattle.rules.specs.Writing.{smallestTable}
 use Rattle.memory.specs.Layout.{Memory, memoryOf, slots, ledgerOf, zeros, zeroed}
 use Rattle.memory.proofs.Zeros.{zeroed-slots}
 use Rattle.ledger.specs.declared.Updated.{Updated}
@@ -24,10 +23,10 @@ use Rattle.ledger.proofs.History.{zeroed-fine}
 use Rattle.ledger.proofs.Wrong.{from-zeros}
 use Rattle.writing.specs.declared.Wrote.{Wrote}
 use Rattle.writing.specs.declared.Wrote.the-variants.{Refused}
-use Rattle.writing.specs.Promise.{bytesFor, writeFault, Writes}
-use Rattle.writing.proofs.Promise.{fault-none, refused-10, refused-11, table-written}
-use Rattle.fresh.specs.Promise.{tabledOf, stopped, thenWritten, afterUpdate, tableOf, TablesIn}
-use Rattle.fresh.specs.Steps.{Fresh, withCount, CountSo}
+use Rattle.writing.specs.Promise.{bytesFor, intoOutput, writeFault, Writes}
+use Rattle.writing.proofs.Promise.{fault-none, refused-11, table-written}
+use Rattle.fresh.specs.Promise.{tabled, tabledOf, stopped, afterUpdate, tableOf, TablesIn}
+use Rattle.fresh.specs.Steps.{Fresh}
 
 module _ (n : ℕ) (some-slot : 0 < n) (few : n ≤ mostSlots) (list output : List ℕ) (m : Memory) where
   -- what the plain ledger comes to
@@ -48,37 +47,30 @@ module _ (n : ℕ) (some-slot : 0 < n) (few : n ≤ mostSlots) (list output : Li
     fine : writeFault m scratch ≡ none
     fine =
         fault-none m scratch (complete .no-2-later (zeroed-fine n some-slot few))
-        (sized ∙ sym (complete .same-lengths .ups ∙ zeroed-slots n))
-
-    from-plain : thenWritten (written ipv4 (ledgerOf (width ipv4) m)) applied output ≡ tableOf n list output
-    unfolding tableOf
-    from-plain =
-        let refusal : none ≡ A .refusal = ap (λ a. a .refusal) (complete .answer) ∙ ap (λ a. a .refusal) (from-zeros n some-slot few list) in
-        let count : applied ≡ A .count = ap (λ a. a .count) (complete .answer) ∙ ap (λ a. a .count) (from-zeros n some-slot few list) in
-        let ledger : ledgerOf (width ipv4) m ≡ A .ledger = complete .ledger ∙ ap (λ a. a .ledger) (from-zeros n some-slot few list) in
-        ap₂ (λ L k. thenWritten (written ipv4 L) k output) ledger count ∙ ap (λ f. afterUpdate f A output) refusal
+        (sized ∙ ap scratchWords (sym (complete .same-lengths .ups ∙ zeroed-slots n)))
 
     abbrev T : List Entry
     T = smallestTable ipv4 (ledgerOf (width ipv4) m)
 
-    as-written : tabledOf (withCount r applied) output' ≡ thenWritten (written ipv4 (ledgerOf (width ipv4) m)) applied output
+    from-plain : tabled (intoOutput T [] output) ≡ tableOf n list output
+    unfolding tableOf
+    from-plain =
+        let refusal : none ≡ A .refusal = ap (λ a. a .refusal) (complete .answer) ∙ ap (λ a. a .refusal) (from-zeros n some-slot few list) in
+        let ledger : ledgerOf (width ipv4) m ≡ A .ledger = complete .ledger ∙ ap (λ a. a .ledger) (from-zeros n some-slot few list) in
+        ap (λ L. tabled (intoOutput (smallestTable ipv4 L) [] output)) ledger ∙ ap (λ f. afterUpdate f A output) refusal
+
+    as-written : tabledOf r output' ≡ tabled (intoOutput T [] output)
     as-written =
-        elim (by-test (isHeld (ledgerOf (width ipv4) m []))) [
-          | inr none-held ↦
-              let so = refused-10 m scratch output scratch' output' r meets fine none-held in
-              ap₂ (λ w o. tabledOf (withCount w applied) o) (so .0) (so .2) ∙ rw none-held
-          | inl held ↦
-              elim (by-test (ltb (length output) (bytesFor T))) [
-                | inl short ↦
-                    let so = refused-11 m scratch output scratch' output' r meets fine held (ltb-true (length output) (bytesFor T) short) in
-                    ap₂ (λ w o. tabledOf (withCount w applied) o) (so .0) (so .2) ∙ rw (held, short)
-                | inr fits ↦
-                    let so = table-written m scratch output scratch' output' r meets fine held (ltb-false (length output) (bytesFor T) fits) in
-                    ap₂ (λ w o. tabledOf (withCount w applied) o) (so .0) (so .2) ∙ rw (held, fits)
-              ]
+        elim (by-test (ltb (length output) (bytesFor T))) [
+          | inl short ↦
+              let so = refused-11 m scratch output scratch' output' r meets fine (ltb-true (length output) (bytesFor T) short) in
+              ap₂ tabledOf (so .0) (so .2) ∙ rw short
+          | inr fits ↦
+              let so = table-written m scratch output scratch' output' r meets fine (ltb-false (length output) (bytesFor T) fits) in
+              ap₂ tabledOf (so .0) (so .2) ∙ rw fits
         ]
 
-    table-follows : TablesIn n list output output' (withCount r applied)
+    table-follows : TablesIn n list output output' r
     table-follows = record { outcome = as-written ∙ from-plain }
 
 -- THE SAME of what the step is lent
@@ -89,22 +81,11 @@ module _ (m₀ m : Memory) (scratch list output : List ℕ) (fresh : Fresh m₀ 
   pub stops : (x c : ℕ) → u ≡ Stopped x c → TablesIn (slots (m₀ .tree)) list output output (Refused x c)
   stops x c e = update-stopped (slots (m₀ .tree)) (fresh .some-slot) (fresh .few) list output m x c (from-zeroed (Stopped x c) e)
 
-  pub follows : (applied : ℕ) → u ≡ Complete applied → (scratch' output' : List ℕ) (w r : Wrote)
-      → Writes m scratch output scratch' output' w → CountSo w applied r → TablesIn (slots (m₀ .tree)) list output output' r
-  follows applied e scratch' output' w r writes counted =
-      subst (TablesIn (slots (m₀ .tree)) list output output') (sym (counted .so))
-      (table-follows (slots (m₀ .tree)) (fresh .some-slot) (fresh .few) list output m applied (from-zeroed (Complete applied) e) scratch scratch' output' w
-      (fresh .sized) writes)
-
--- THE COUNT BESIDE A REFUSAL
-module _ (wrote : Wrote) (number count applied : ℕ) (is : wrote ≡ Refused number count) where
-  pub count-applied : number ≡ noDefault → CountSo wrote applied (Refused number applied)
-  count-applied e =
-      record { so = sym (ap (λ w. withCount w applied) is ∙ ap (λ b. Refused number (cond b applied count)) (eq-eqb number noDefault e)) }
-
-  pub count-kept : (number ≡ noDefault → ⊥) → CountSo wrote applied (Refused number count)
-  count-kept other =
-      record { so = sym (ap (λ w. withCount w applied) is ∙ ap (λ b. Refused number (cond b applied count)) (ne-eqb number noDefault other)) }
+  pub follows : (applied : ℕ) → u ≡ Complete applied → (scratch' output' : List ℕ) (r : Wrote)
+      → Writes m scratch output scratch' output' r → TablesIn (slots (m₀ .tree)) list output output' r
+  follows applied e scratch' output' r writes =
+      table-follows (slots (m₀ .tree)) (fresh .some-slot) (fresh .few) list output m applied (from-zeroed (Complete applied) e) scratch scratch' output' r
+      (fresh .sized) writes
 
 -- ZEROED SLICES of n slots are what the step asks for
 pub zeroed-fresh : (n : ℕ) → 0 < n → n ≤ mostSlots → Fresh (memoryOf (zeros n) (zeros n) (zeros n) (zeros n)) (zeros (scratchWords n))
@@ -115,5 +96,5 @@ zeroed-fresh n some-slot few =
       zeros = ap (λ k. memoryOf (zeros k) (zeros k) (zeros k) (zeros k)) (sym sized);
       some-slot = omega (arith, sized);
       few = omega (arith, sized);
-      sized = refl;
+      sized = length-replicate (scratchWords n) 0 ∙ ap scratchWords (sym sized);
     }

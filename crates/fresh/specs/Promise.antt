@@ -7,7 +7,7 @@ use Prim.Native.Nat.{ℕ}
 use Rattle.theory.specs.Ledger.{nothing}
 use Rattle.rules.specs.Numbers.{ipv4, ownSlots}
 use Rattle.rules.specs.Plain.{Applied, updated}
-use Rattle.rules.specs.Writing.{Written, writes, refuses, written}
+use Rattle.rules.specs.Writing.{smallestTable}
 use Rattle.writing.specs.declared.Wrote.{Wrote}
 use Rattle.writing.specs.Promise.{Outcome, outcomeOf, intoOutput}
 
@@ -28,14 +28,9 @@ tabledOf r output = tabled (outcomeOf r [] output)
 abbrev pub stopped : ℕ → ℕ → List ℕ → Tabled
 stopped x applied output = record { refusal = some x; count = applied; output = output }
 
--- THE WRITING: the table, or 11 with the count that is needed; or 10
-abbrev pub thenWritten : Written → ℕ → List ℕ → Tabled
-thenWritten (writes T) applied output = tabled (intoOutput T [] output)
-thenWritten (refuses x) applied output = stopped x applied output
-
--- AFTER THE UPDATE: 3 to 9 stop there
+-- AFTER THE UPDATE: 3 to 9 stop there; else the table is written, or 11 comes with the count that is needed
 abbrev pub afterUpdate : Option ℕ → Applied → List ℕ → Tabled
-afterUpdate none a output = thenWritten (written ipv4 (a .ledger)) (a .count) output
+afterUpdate none a output = tabled (intoOutput (smallestTable ipv4 (a .ledger)) [] output)
 afterUpdate (some x) a output = stopped x (a .count) output
 
 -- FROM A LIST TO A TABLE, in a fresh ledger of n slots

@@ -2,30 +2,11 @@
 // the program does inside.
 ghost use Rattle.memory.specs.Layout.{memoryOf, slots};
 ghost use Rattle.fresh.specs.Promise.{TablesIn, Tables};
-ghost use Rattle.fresh.specs.Steps.{Fresh, CountSo};
+ghost use Rattle.fresh.specs.Steps.{Fresh};
 use ledger::Updated;
-use numbers::NO_DEFAULT;
 use numbers::OWN_SCRATCH;
 use numbers::OWN_SLOTS;
 use writing::Wrote;
-
-// What the writing answers, once `applied` records were taken: 10 comes with their count, as 3 to 9 do.
-fn with_count(wrote: Wrote, applied: usize) -> Wrote
-    ensures { λ r. ⌜ CountSo wrote applied r ⌝ }
-{
-    match wrote {
-        Wrote::Table { count } => Wrote::Table { count },
-        Wrote::Refused { number, count } => {
-            if number == NO_DEFAULT {
-                return Wrote::Refused {
-                    number,
-                    count: applied,
-                };
-            }
-            Wrote::Refused { number, count }
-        }
-    }
-}
 
 // The list is applied to zeroed memory, and the table written from there.
 fn table_in(
@@ -43,10 +24,7 @@ fn table_in(
     let updated = ledger::update(lo, hi, up, hop, list);
     match updated {
         Updated::Refused { number, count } => Wrote::Refused { number, count },
-        Updated::Complete { count: applied } => {
-            let wrote = writing::write(lo, hi, up, hop, scratch, output);
-            with_count(wrote, applied)
-        }
+        Updated::Complete { count: _ } => writing::write(lo, hi, up, hop, scratch, output),
     }
 }
 

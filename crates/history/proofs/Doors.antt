@@ -1,13 +1,12 @@
 -- What the doors write is the smallest table of the ledger that their list makes, and lists that forward alike give the same bytes.
 use mathlib.Core.Path.{_≡_, sym, ap, ap₂, subst, _∙_}
-use mathlib.Core.Bool.{true}
-use mathlib.Core.List.{List, [], _++_}
+use mathlib.Core.List.{List, _++_}
 use mathlib.Core.Option.{none}
 use Prim.Native.Nat.{ℕ, _*_, _≤_}
 use native.Mathlib.Omega.{arith}
 use lib.ListN.{length, take, drop}
 use lib.Seq.{take-at}
-use Rattle.theory.specs.Ledger.{Ledger, Entry, isHeld, nothing}
+use Rattle.theory.specs.Ledger.{Ledger, Entry, nothing}
 use Rattle.rules.specs.Numbers.{ipv4, width, recordBytes, ownSlots, mostInput}
 use Rattle.rules.specs.Records.{printTable}
 use Rattle.rules.specs.Plain.{updated, WithinRules}
@@ -39,28 +38,28 @@ tableFrom list = smallestTable ipv4 (ledgerFrom list)
 within : (list : List ℕ) → WithinRules (width ipv4) (ledgerFrom list)
 within list = updated-kept ipv4 ownSlots nothing list (record { within = nothing-within (width ipv4); fits = omega (arith, needs-nothing ℕ (width ipv4)) }) .within
 
--- THE DAEMON'S TABLE CALL: where nothing is refused, a default route is held and there is room, it succeeds with the smallest table
+-- THE DAEMON'S TABLE CALL: where nothing is refused and there is room, it succeeds with the smallest table
 pub tables-smallest : (list output output' : List ℕ) (r : CountAnswer) → TablesForC list output output' r
-    → updated ipv4 ownSlots nothing list .refusal ≡ none → isHeld (ledgerFrom list []) ≡ true → bytesFor (tableFrom list) ≤ length output
+    → updated ipv4 ownSlots nothing list .refusal ≡ none → bytesFor (tableFrom list) ≤ length output
     → TablesSmallest (ledgerFrom list) output output' r
-tables-smallest list output output' r meets quiet held room =
+tables-smallest list output output' r meets quiet room =
     let T = tableFrom list in
-    let is = made ownSlots list output quiet held room in
+    let is = made ownSlots list output quiet room in
     record {
       count = length T;
       bytes = printTable ipv4 T;
       answer = meets .answer ∙ ap (λ t. countFor (t .refusal) (t .count)) is;
       written = meets .left ∙ ap (λ t. t .output) is ∙ ap (λ k. printTable ipv4 T ++ drop k output) (sym (table-length ipv4 T));
-      smallest = is-smallest (ledgerFrom list) (within list) held;
+      smallest = is-smallest (ledgerFrom list) (within list);
     }
 
 -- an output as long as the list is room enough
-pub list-is-enough : (list : List ℕ) → isHeld (ledgerFrom list []) ≡ true → bytesFor (tableFrom list) ≤ length list
-list-is-enough list held = table-fits ipv4 ownSlots list (omega arith) held
+pub list-is-enough : (list : List ℕ) → bytesFor (tableFrom list) ≤ length list
+list-is-enough list = table-fits ipv4 ownSlots list (omega arith)
 
--- THE NUMBER 0 ONLY SO: every record was applied, a default route is held, and there was room
+-- THE NUMBER 0 ONLY SO: every record was applied, and there was room
 pub zero-only-so : (list output output' : List ℕ) (r : CountAnswer) → TablesForC list output output' r → r .number ≡ 0
-    → (updated ipv4 ownSlots nothing list .refusal ≡ none) × (isHeld (ledgerFrom list []) ≡ true) × (bytesFor (tableFrom list) ≤ length output)
+    → (updated ipv4 ownSlots nothing list .refusal ≡ none) × (bytesFor (tableFrom list) ≤ length output)
 zero-only-so list output output' r meets e = made-only-so ownSlots list output (table-0 list output output' r meets e)
 
 -- FORWARDING ALIKE: the same count, and the same bytes
@@ -70,7 +69,7 @@ in-front : (list output output' : List ℕ) (r : CountAnswer) → TablesForC lis
 in-front list output output' r meets e =
     let T = tableFrom list in
     let so = zero-only-so list output output' r meets e in
-    let is = made ownSlots list output (so .0) (so .1) (so .2) in
+    let is = made ownSlots list output (so .0) (so .1) in
     let answer : r ≡ record { number = 0; count = length T } = meets .answer ∙ ap (λ t. countFor (t .refusal) (t .count)) is in (
       answer,
       ap₂ (λ k o. take (k * recordBytes ipv4) o) (ap (λ a. a .count) answer) (meets .left ∙ ap (λ t. t .output) is)
@@ -91,18 +90,16 @@ tables-same-bytes list output output' r meets e list₂ output₂ output₂' r�
     )
 
 -- THE PROGRAM writes the smallest table's bytes and nothing else; and the same for inputs that forward alike
-module _ (input : List ℕ) (fits : length input ≤ mostInput) (quiet : updated ipv4 ownSlots nothing input .refusal ≡ none)
-    (held : isHeld (ledgerFrom input []) ≡ true) where
+module _ (input : List ℕ) (fits : length input ≤ mostInput) (quiet : updated ipv4 ownSlots nothing input .refusal ≡ none) where
   pub program-smallest : IsSmallest (ledgerFrom input) (length (tableFrom input)) (writesFor input)
   program-smallest =
-      subst (IsSmallest (ledgerFrom input) (length (tableFrom input))) (sym (writes-table input fits quiet held))
-      (is-smallest (ledgerFrom input) (within input) held)
+      subst (IsSmallest (ledgerFrom input) (length (tableFrom input))) (sym (writes-table input fits quiet))
+      (is-smallest (ledgerFrom input) (within input))
 
 pub program-same-bytes : (input input₂ : List ℕ) → length input ≤ mostInput → length input₂ ≤ mostInput
     → updated ipv4 ownSlots nothing input .refusal ≡ none → updated ipv4 ownSlots nothing input₂ .refusal ≡ none
-    → isHeld (ledgerFrom input []) ≡ true → isHeld (ledgerFrom input₂ []) ≡ true
     → ForwardAlike ipv4 (ledgerFrom input) (ledgerFrom input₂) → writesFor input ≡ writesFor input₂
-program-same-bytes input input₂ fits fits₂ quiet quiet₂ held held₂ alike =
-    writes-table input fits quiet held
+program-same-bytes input input₂ fits fits₂ quiet quiet₂ alike =
+    writes-table input fits quiet
     ∙ ap (printTable ipv4) (forward-alike ipv4 (ledgerFrom input) (ledgerFrom input₂) alike)
-    ∙ sym (writes-table input₂ fits₂ quiet₂ held₂)
+    ∙ sym (writes-table input₂ fits₂ quiet₂)

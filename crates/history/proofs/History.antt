@@ -1,7 +1,6 @@
 -- DEMAND 3: any run of calls from zeroed memory replies what a plain ledger of the accepted records replies.
 use mathlib.Core.Path.{_≡_, refl, sym, ap, ap₂, subst, subst₂, _∙_}
 use mathlib.Core.Logic.{inl, inr}
-use mathlib.Core.Bool.{true}
 use mathlib.Core.List.{List, [], _∷_, _++_}
 use mathlib.Core.Option.{none}
 use Prim.Native.Nat.{ℕ, _*_, _≤_, _<_}
@@ -9,7 +8,7 @@ use lib.Dec.{eqb}
 use lib.ListN.{length, take}
 use borrow.Author.Tests.{eqb-true, eqb-false}
 use Rattle.theory.specs.Bits.{Each}
-use Rattle.theory.specs.Ledger.{Ledger, isHeld, nothing}
+use Rattle.theory.specs.Ledger.{Ledger, nothing}
 use Rattle.theory.proofs.Hops.{by-test}
 use Rattle.rules.specs.Numbers.{ipv4, width, recordBytes, mostSlots, scratchWords}
 use Rattle.rules.specs.Plain.{updated}
@@ -46,9 +45,9 @@ module _ (n : ℕ) (m : Memory) (fine : lentFault m ≡ none) (sized : slots (m 
   unfolding writeOf
   writes-so scratch output =
       ap wrote-so
-      (elim (by-test (eqb (length scratch) n)) [
-        | inl e ↦ rw (fault-none m scratch fine (eqb-true (length scratch) n e ∙ sym sized), e)
-        | inr e ↦ rw (fault-slices m scratch (inr (λ q. eqb-false (length scratch) n e (q ∙ sized))), e)
+      (elim (by-test (eqb (length scratch) (scratchWords n))) [
+        | inl e ↦ rw (fault-none m scratch fine (eqb-true (length scratch) (scratchWords n) e ∙ ap scratchWords (sym sized)), e)
+        | inr e ↦ rw (fault-slices m scratch (inr (λ q. eqb-false (length scratch) (scratchWords n) e (q ∙ ap scratchWords sized))), e)
       ])
 
   one-call : (a : Ask) (m' : Memory) (r : Reply) → Call m a m' r → Follows n m a m' r
@@ -107,16 +106,15 @@ history n some-slot few asks m replies (next {asks = before} {m = m₀} {replies
 
 -- WHAT IS THEN WRITTEN is the plain ledger's smallest table
 pub history-writes : (n : ℕ) → 0 < n → n ≤ mostSlots → (asks : List Ask) (m : Memory) (replies : List Reply) → Run n asks m replies
-    → isHeld (plainLedger n nothing asks []) ≡ true
     → (scratch output scratch' output' : List ℕ) (r : Wrote) → Writes m scratch output scratch' output' r
     → length scratch ≡ scratchWords n → bytesFor (smallestTable ipv4 (plainLedger n nothing asks)) ≤ length output
     → WritesSmallest (plainLedger n nothing asks) (scratchWords n) output scratch' output' r
-history-writes n some-slot few asks m replies run default scratch output scratch' output' r meets sized room =
+history-writes n some-slot few asks m replies run scratch output scratch' output' r meets sized room =
     let after = history n some-slot few asks m replies run in
     let same : ledgerOf (width ipv4) m ≡ plainLedger n nothing asks = after .ledger in
     subst₂ (λ L k. WritesSmallest L k output scratch' output' r) same sized
-    (writes-smallest m scratch output scratch' output' r meets (fault-none m scratch (after .let-through) (sized ∙ sym (after .same-slots)))
-    (rw same default) (rw same room))
+    (writes-smallest m scratch output scratch' output' r meets (fault-none m scratch (after .let-through) (sized ∙ ap scratchWords (sym (after .same-slots))))
+    (rw same room))
 
 -- two histories whose ledgers forward alike: both write the same count and the same bytes
 pub histories-same-bytes : (n : ℕ) → 0 < n → n ≤ mostSlots → (asks : List Ask) (m : Memory) (replies : List Reply) → Run n asks m replies

@@ -1,16 +1,15 @@
 -- WHAT IS WRITTEN from any memory at all is the smallest table of the ledger that it holds, in document 01's words; and two memories
 -- that forward alike write the same bytes.
 use mathlib.Core.Path.{_≡_, refl, sym, ap, ap₂, _∙_}
-use mathlib.Core.Bool.{true}
-use mathlib.Core.List.{List, [], _++_}
+use mathlib.Core.List.{List, _++_}
 use mathlib.Core.Option.{none}
 use Prim.Native.Nat.{ℕ, _*_, _≤_, _<_}
 use native.Mathlib.Omega.{arith}
 use lib.ListN.{length, take, drop}
 use lib.Seq.{take-at}
-use Rattle.theory.specs.Ledger.{Ledger, Entry, isHeld, nothing, load}
+use Rattle.theory.specs.Ledger.{Ledger, Entry, nothing, load}
 use Rattle.theory.proofs.Hops.{never}
-use Rattle.rules.specs.Numbers.{ipv4, width, recordBytes, mostSlots}
+use Rattle.rules.specs.Numbers.{ipv4, width, recordBytes, mostSlots, scratchWords}
 use Rattle.rules.specs.Records.{printTable}
 use Rattle.rules.specs.Plain.{needs, WithinRules}
 use Rattle.rules.specs.Writing.{smallestTable, ForwardAlike, SmallestFor}
@@ -38,14 +37,14 @@ some-slot w L = omega (arith, needs-mono w L nothing (λ s e. never e refl), nee
 
 -- what a memory writes, where T is its smallest table
 written-from : (m : Memory) (scratch output scratch' output' : List ℕ) (r : Wrote) → Writes m scratch output scratch' output' r
-    → writeFault m scratch ≡ none → isHeld (ledgerOf (width ipv4) m []) ≡ true
+    → writeFault m scratch ≡ none
     → (T : List Entry) → smallestTable ipv4 (ledgerOf (width ipv4) m) ≡ T → bytesFor T ≤ length output
     → Same r scratch' output' (Table (length T)) (zeros (length scratch)) (printTable ipv4 T ++ drop (length (printTable ipv4 T)) output)
-written-from m scratch output scratch' output' r meets fine held T is room =
-    rw (table-length ipv4 T) (table-of m scratch output scratch' output' r meets fine T (rw (held, is)) room)
+written-from m scratch output scratch' output' r meets fine T is room =
+    rw (table-length ipv4 T) (table-of m scratch output scratch' output' r meets fine T is room)
 
--- THE TABLE OF A LEDGER within the rules, with a default route
-module _ (L : Ledger ℕ) (ok : WithinRules (width ipv4) L) (default : isHeld (L []) ≡ true) where
+-- THE TABLE OF A LEDGER within the rules
+module _ (L : Ledger ℕ) (ok : WithinRules (width ipv4) L) where
   abbrev T : List Entry
   T = smallestTable ipv4 L
 
@@ -53,7 +52,7 @@ module _ (L : Ledger ℕ) (ok : WithinRules (width ipv4) L) (default : isHeld (L
   bytes = printTable ipv4 (smallestTable ipv4 L)
 
   all : SmallestFor ipv4 L (smallestTable ipv4 L)
-  all = smallest-for ipv4 L ok default
+  all = smallest-for ipv4 L ok
 
   -- loaded into fresh memory with enough slots, every record is taken, and the ledger is the table's
   module _ (n : ℕ) (fits : needs (width ipv4) (load T) ≤ n) (few : n ≤ mostSlots) (m : Memory) (u : Updated)
@@ -62,27 +61,27 @@ module _ (L : Ledger ℕ) (ok : WithinRules (width ipv4) L) (default : isHeld (L
     lent = omega (arith, some-slot (width ipv4) (load T))
 
     loaded : updateOf (zeroed n) bytes ≡ record { refusal = none; count = length T; ledger = load T }
-    loaded = from-zeros n lent few bytes ∙ loads ipv4 n T (all .proper) (all .real-hops) fits
+    loaded = from-zeros n lent few bytes ∙ loads ipv4 n T (all .proper) fits
 
     holds-it : ledgerOf (width ipv4) m ≡ load T
     holds-it = taken .ledger ∙ ap (λ a. a .ledger) loaded
 
     written-again : (scratch output scratch' output' : List ℕ) (r : Wrote) → Writes m scratch output scratch' output' r
-        → length scratch ≡ n → bytesFor T ≤ length output
+        → length scratch ≡ scratchWords n → bytesFor T ≤ length output
         → Same r scratch' output' (Table (length T)) (zeros (length scratch)) (bytes ++ drop (length bytes) output)
     written-again scratch output scratch' output' r meets sized room =
         written-from m scratch output scratch' output' r meets
-        (fault-none m scratch (taken .no-2-later (zeroed-fine n lent few)) (sized ∙ sym (taken .same-lengths .ups ∙ zeroed-slots n)))
-        (ap isHeld (ap (λ M. M []) holds-it ∙ all .default)) T (ap (smallestTable ipv4) holds-it ∙ all .again) room
+        (fault-none m scratch (taken .no-2-later (zeroed-fine n lent few)) (sized ∙ ap scratchWords (sym (taken .same-lengths .ups ∙ zeroed-slots n))))
+        T (ap (smallestTable ipv4) holds-it ∙ all .again) room
 
   pub is-smallest : IsSmallest L (length T) bytes
   is-smallest = record {
     sized = table-length ipv4 T;
-    agrees = λ x l f looks. looks .answer ∙ table-looked-up ipv4 L ok default x l;
-    fewest-records = λ list same. omega (arith, table-length ipv4 T, no-shorter-list ipv4 L ok default list same);
+    agrees = λ x l f looks. looks .answer ∙ table-looked-up ipv4 L ok x l;
+    fewest-records = λ list same. omega (arith, table-length ipv4 T, no-shorter-list ipv4 L ok list same);
     fewest-entries = all .fewest;
     at-most-held = all .at-most-held;
-    reads-back = table-reads-back ipv4 L ok default;
+    reads-back = table-reads-back ipv4 L ok;
     loads = λ n fits few m u taken. taken .answer ∙ ap reported (loaded n fits few m u taken);
     again = λ n fits few m u taken scratch output scratch' output' r meets sized room.
         let now = written-again n fits few m u taken scratch output scratch' output' r meets sized (omega (arith, table-length ipv4 T)) in
@@ -91,20 +90,20 @@ module _ (L : Ledger ℕ) (ok : WithinRules (width ipv4) L) (default : isHeld (L
 
 -- ANY MEMORY
 pub writes-smallest : (m : Memory) (scratch output scratch' output' : List ℕ) (r : Wrote) → Writes m scratch output scratch' output' r
-    → writeFault m scratch ≡ none → isHeld (ledgerOf (width ipv4) m []) ≡ true
+    → writeFault m scratch ≡ none
     → bytesFor (smallestTable ipv4 (ledgerOf (width ipv4) m)) ≤ length output
     → WritesSmallest (ledgerOf (width ipv4) m) (length scratch) output scratch' output' r
-writes-smallest m scratch output scratch' output' r meets fine default room =
+writes-smallest m scratch output scratch' output' r meets fine room =
     let L = ledgerOf (width ipv4) m in
     let ok = within-rules (width ipv4) m in
-    let now = written-from m scratch output scratch' output' r meets fine default (smallestTable ipv4 L) refl room in
+    let now = written-from m scratch output scratch' output' r meets fine (smallestTable ipv4 L) refl room in
     record {
       count = length (smallestTable ipv4 L);
       bytes = printTable ipv4 (smallestTable ipv4 L);
       answer = now .0;
       written = now .2;
       scratch-zero = now .1;
-      smallest = is-smallest L ok default;
+      smallest = is-smallest L ok;
     }
 
 -- FORWARDING ALIKE: the same count, and the same bytes

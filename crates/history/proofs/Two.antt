@@ -10,12 +10,12 @@ use lib.ListN.{length}
 use Rattle.theory.specs.Bits.{Each}
 use Rattle.theory.specs.Ledger.{Ledger, Entry, isHeld, announce, withdraw}
 use Rattle.theory.proofs.Longest.{none-some}
-use Rattle.rules.specs.Numbers.{ipv4, width, badSlices, noLedger, badListLength, badAction, notHeld, noSlots, noDefault, shortOutput}
+use Rattle.rules.specs.Numbers.{ipv4, width, scratchWords, badSlices, noLedger, badListLength, badAction, notHeld, noSlots, shortOutput}
 use Rattle.rules.specs.Records.{Change, announces, withdraws, Use, update, lookup, Rule, _refusedBy_, fieldsOf, fieldRules, firstFault, Reading, means, faulty, meaning, faultOr, read, recordsOf, wholeRecords}
 use Rattle.rules.specs.Plain.{Outcome, taken, refused, needs, ifRoom, apply, Applied, next, applyAll, updated}
 use Rattle.rules.specs.Lookup.{scanAll, scanned, lookedUp}
-use Rattle.rules.specs.Writing.{writes, refuses, smallestTable, written}
-use Rattle.writing.specs.Promise.{Outcome as Ending, bytesFor, intoOutput, writtenInto}
+use Rattle.rules.specs.Writing.{smallestTable}
+use Rattle.writing.specs.Promise.{Outcome as Ending, bytesFor, intoOutput}
 use Rattle.history.specs.Runs.{Ask, updating, looking-up, looking-up-in, writing, plainReply}
 use Rattle.history.specs.Theorem.{NotTwo}
 
@@ -111,16 +111,11 @@ into-not-2 : (T : List Entry) (scratch output : List ℕ) → Not2 (intoOutput T
 into-not-2 T scratch output =
     either (λ (o : Ending). Not2 (o .refusal)) (ltb (length output) (bytesFor T)) _ _ (other shortOutput (λ e. omega arith)) quiet
 
-written-not-2 : (L : Ledger ℕ) (scratch output : List ℕ) → Not2 (writtenInto (written ipv4 L) scratch output .refusal)
-written-not-2 L scratch output =
-    either (λ w. Not2 (writtenInto w scratch output .refusal)) (isHeld (L [])) (writes (smallestTable ipv4 L)) (refuses noDefault)
-    (into-not-2 (smallestTable ipv4 L) scratch output) (other noDefault (λ e. omega arith))
-
 -- EVERY REPLY
 pub plain-not-two : (n : ℕ) (L : Ledger ℕ) (a : Ask) → NotTwo (plainReply n L a)
 plain-not-two n L (updating list) = update-not-2 n L list
 plain-not-two n L (looking-up x) = quiet
 plain-not-two n L (looking-up-in list x) = list-not-2 list x
 plain-not-two n L (writing scratch output) =
-    either (λ o. Not2 (o .refusal)) (eqb (length scratch) n) (writtenInto (written ipv4 L) scratch output) _
-    (written-not-2 L scratch output) (other badSlices (λ e. omega arith))
+    either (λ o. Not2 (o .refusal)) (eqb (length scratch) (scratchWords n)) (intoOutput (smallestTable ipv4 L) scratch output) _
+    (into-not-2 (smallestTable ipv4 L) scratch output) (other badSlices (λ e. omega arith))

@@ -1,15 +1,15 @@
 -- The wrong writers that document 01 names break the promise, each at one of its cases and in any memory that holds that case's
 -- ledger, whatever they answer and whatever else they leave.
 use mathlib.Core.Path.{_≡_, refl, sym, ap, _∙_}
-use mathlib.Core.List.{List, _++_}
+use mathlib.Core.List.{List, [], _∷_, _++_}
 use mathlib.Core.Option.{none}
 use Prim.Native.Nat.{ℕ, _≤_, _<_}
 use native.Mathlib.Omega.{arith}
 use lib.ListN.{length, drop, getD}
-use Rattle.theory.specs.Ledger.{Entry, nothing}
-use Rattle.rules.specs.Numbers.{ipv4, width, highestHop, mostSlots}
+use Rattle.theory.specs.Ledger.{Entry, _via_, nothing}
+use Rattle.rules.specs.Numbers.{ipv4, width, highestHop, mostSlots, scratchWords}
 use Rattle.rules.specs.Records.{printAll, printTable}
-use Rattle.rules.specs.Writing.{writes, written}
+use Rattle.rules.specs.Writing.{smallestTable}
 use Rattle.memory.specs.Layout.{Memory, ledgerOf, zeros, zeroed}
 use Rattle.memory.proofs.Zeros.{zeroed-slots}
 use Rattle.ledger.specs.declared.Updated.{Updated}
@@ -17,13 +17,20 @@ use Rattle.ledger.specs.Promise.{Updates}
 use Rattle.ledger.proofs.History.{zeroed-fine}
 use Rattle.ledger.proofs.Wrong.{from-zeros}
 use Rattle.writing.specs.declared.Wrote.{Wrote}
+use Rattle.writing.specs.declared.Wrote.the-variants.{Table, Refused}
 use Rattle.writing.specs.Promise.{bytesFor, writeFault, Writes}
-use Rattle.writing.proofs.Promise.{fault-none, table-of}
+use Rattle.writing.proofs.Promise.{Same, fault-none, table-of}
 use Rattle.force.specs.Writers.{alwaysUnion}
-use Rattle.cases.specs.Cases.{Case, after, Holds, caseC, tableC, copyOfC, caseG, tableF, tableG}
+use Rattle.cases.specs.Cases.{Case, after, Holds, caseC, tableC, copyOfC, tableF, caseG, tableG, caseHalf, tableHalf, caseBelow, tableBelow}
 use Rattle.cases.proofs.Cases.{cases-hold}
 use Rattle.history.proofs.Room.{more-room}
 use Rattle.history.proofs.Union.{unionTable, rowC, union-of-C}
+
+pub half-holds : Holds caseHalf
+half-holds = cases-hold .1 .1 .1 .1 .1 .1 .1 .1 .1 .1 .1 .1 .0
+
+below-holds : Holds caseBelow
+below-holds = cases-hold .1 .1 .1 .1 .1 .1 .1 .1 .1 .1 .1 .1 .1 .1 .1 .1 .0
 
 -- A MEMORY THAT HOLDS A CASE: writing is let through, and the ledger is the one that the case's records make
 pub record HoldsCase (c : Case) (m : Memory) (scratch : List ℕ) : Type 0 where
@@ -33,10 +40,10 @@ pub record HoldsCase (c : Case) (m : Memory) (scratch : List ℕ) : Type 0 where
 -- there are such memories: zeroed memory with enough slots, updated by the case's records
 pub by-update : (c : Case) → Holds c → c .result .refusal ≡ none → (n : ℕ) → 0 < n → c .slots ≤ n → n ≤ mostSlots
     → (m : Memory) (u : Updated) → Updates (zeroed n) (printAll ipv4 (c .records)) m u
-    → (scratch : List ℕ) → length scratch ≡ n → HoldsCase c m scratch
+    → (scratch : List ℕ) → length scratch ≡ scratchWords n → HoldsCase c m scratch
 by-update c holds quiet n some-slot enough few m u meets scratch sized =
     record {
-      let-through = fault-none m scratch (meets .no-2-later (zeroed-fine n some-slot few)) (sized ∙ sym (meets .same-lengths .ups ∙ zeroed-slots n));
+      let-through = fault-none m scratch (meets .no-2-later (zeroed-fine n some-slot few)) (sized ∙ ap scratchWords (sym (meets .same-lengths .ups ∙ zeroed-slots n)));
       ledger =
           meets .ledger
           ∙ ap (λ a. a .ledger)
@@ -45,28 +52,40 @@ by-update c holds quiet n some-slot enough few m u meets scratch sized =
     }
 
 pub memory-of-C : (n : ℕ) → 6 ≤ n → n ≤ mostSlots → (m : Memory) (u : Updated) → Updates (zeroed n) (printAll ipv4 (caseC .records)) m u
-    → (scratch : List ℕ) → length scratch ≡ n → HoldsCase caseC m scratch
+    → (scratch : List ℕ) → length scratch ≡ scratchWords n → HoldsCase caseC m scratch
 memory-of-C n enough = by-update caseC (cases-hold .1 .1 .0) refl n (omega arith) enough
 
+pub memory-of-half : (n : ℕ) → 64 ≤ n → n ≤ mostSlots → (m : Memory) (u : Updated) → Updates (zeroed n) (printAll ipv4 (caseHalf .records)) m u
+    → (scratch : List ℕ) → length scratch ≡ scratchWords n → HoldsCase caseHalf m scratch
+memory-of-half n enough = by-update caseHalf half-holds refl n (omega arith) enough
+
+pub memory-below : (n : ℕ) → 64 ≤ n → n ≤ mostSlots → (m : Memory) (u : Updated) → Updates (zeroed n) (printAll ipv4 (caseBelow .records)) m u
+    → (scratch : List ℕ) → length scratch ≡ scratchWords n → HoldsCase caseBelow m scratch
+memory-below n enough = by-update caseBelow below-holds refl n (omega arith) enough
+
 pub memory-of-G : (n : ℕ) → 64 ≤ n → n ≤ mostSlots → (m : Memory) (u : Updated) → Updates (zeroed n) (printAll ipv4 (caseG .records)) m u
-    → (scratch : List ℕ) → length scratch ≡ n → HoldsCase caseG m scratch
+    → (scratch : List ℕ) → length scratch ≡ scratchWords n → HoldsCase caseG m scratch
 memory-of-G n enough = by-update caseG (cases-hold .1 .1 .1 .1 .1 .1 .0) refl n (omega arith) enough
 
--- what the promise leaves in the output there; its byte 7 is the hop of the first record, the default route's
+-- what the promise answers and leaves there
+at-case : (c : Case) (T : List Entry) → Holds c → c .result .output ≡ T
+    → (m : Memory) (scratch output scratch' output' : List ℕ) (r : Wrote) → HoldsCase c m scratch → bytesFor T ≤ length output
+    → Writes m scratch output scratch' output' r
+    → Same r scratch' output' (Table (length T)) (zeros (length scratch)) (printTable ipv4 T ++ drop (bytesFor T) output)
+at-case c T holds is m scratch output scratch' output' r here room meets =
+    table-of m scratch output scratch' output' r meets (here .let-through) T
+    (ap (smallestTable ipv4) (here .ledger) ∙ ap (λ a. a .output) (holds .answers) ∙ is) room
+
+-- byte 7 of the output is the hop of the first record, and byte 4 its length
 abbrev firstHop : List ℕ → ℕ
 firstHop output = getD output 7 0
 
-first-hop : (c : Case) (T : List Entry) → Holds c → c .result .output ≡ writes T
-    → (m : Memory) (scratch output scratch' output' : List ℕ) (r : Wrote) → HoldsCase c m scratch → bytesFor T ≤ length output
-    → Writes m scratch output scratch' output' r → firstHop output' ≡ firstHop (printTable ipv4 T ++ drop (bytesFor T) output)
-first-hop c T holds is m scratch output scratch' output' r here room meets =
-    ap firstHop
-    (table-of m scratch output scratch' output' r meets (here .let-through) T
-    (ap (written ipv4) (here .ledger) ∙ ap (λ a. a .output) (holds .answers) ∙ is) room .2)
+abbrev firstLength : List ℕ → ℕ
+firstLength output = getD output 4 0
 
 module _ (m : Memory) (scratch scratch' : List ℕ) (r : Wrote) (C : HoldsCase caseC m scratch) where
   for-C : (output output' : List ℕ) → bytesFor tableC ≤ length output → Writes m scratch output scratch' output' r → firstHop output' ≡ 2
-  for-C output output' room meets = first-hop caseC tableC (cases-hold .1 .1 .0) refl m scratch output scratch' output' r C room meets
+  for-C output output' room meets = ap firstHop (at-case caseC tableC (cases-hold .1 .1 .0) refl m scratch output scratch' output' r C room meets .2)
 
   -- A WRITER THAT LEAVES THE OUTPUT ALONE: zeros, as many as C's table has bytes
   pub leaves-the-output-breaks : Writes m scratch (zeros (bytesFor tableC)) scratch' (zeros (bytesFor tableC)) r → ⊥
@@ -94,5 +113,30 @@ pub keeps-the-sets-breaks : (m : Memory) (scratch output scratch' rest : List �
     → bytesFor tableG ≤ length output → Writes m scratch output scratch' (printTable ipv4 tableF ++ rest) r → ⊥
 keeps-the-sets-breaks m scratch output scratch' rest r G room meets =
     let wrong : _≡_ {A = ℕ} 2 1 =
-    first-hop caseG tableG (cases-hold .1 .1 .1 .1 .1 .1 .0) refl m scratch output scratch' (printTable ipv4 tableF ++ rest) r G room meets in
+    ap firstHop (at-case caseG tableG (cases-hold .1 .1 .1 .1 .1 .1 .0) refl m scratch output scratch' (printTable ipv4 tableF ++ rest) r G room meets .2) in
     omega arith
+
+-- WITHOUT A DEFAULT ROUTE: one that refuses such a ledger
+pub refuses-no-default-breaks : (m : Memory) (scratch output scratch' output' : List ℕ) (x c : ℕ) → HoldsCase caseHalf m scratch
+    → bytesFor tableHalf ≤ length output → Writes m scratch output scratch' output' (Refused x c) → ⊥
+refuses-no-default-breaks m scratch output scratch' output' x c half room meets =
+    let wrong : Refused x c ≡ Table 1 =
+    at-case caseHalf tableHalf half-holds refl m scratch output scratch' output' (Refused x c) half room meets .0 in
+    let z : _≡_ {A = ℕ} 0 1 = cc in
+    omega arith
+
+-- DISCARD BELOW * 1: one that takes a held discard for no route, so that it hides nothing, and one that always gives the empty string an entry
+module _ (m : Memory) (scratch output scratch' rest : List ℕ) (r : Wrote) (here : HoldsCase caseBelow m scratch)
+    (room : bytesFor tableBelow ≤ length output) where
+  for-below : (output' : List ℕ) → Writes m scratch output scratch' output' r → output' ≡ printTable ipv4 tableBelow ++ drop (bytesFor tableBelow) output
+  for-below output' meets = at-case caseBelow tableBelow below-holds refl m scratch output scratch' output' r here room meets .2
+
+  pub hides-nothing-breaks : Writes m scratch output scratch' (printTable ipv4 ([] via 1 ∷ []) ++ rest) r → ⊥
+  hides-nothing-breaks meets =
+      let wrong : _≡_ {A = ℕ} 0 1 = ap firstLength (for-below (printTable ipv4 ([] via 1 ∷ []) ++ rest) meets) in
+      omega arith
+
+  pub always-a-default-breaks : Writes m scratch output scratch' (printTable ipv4 ([] via 0 ∷ tableBelow) ++ rest) r → ⊥
+  always-a-default-breaks meets =
+      let wrong : _≡_ {A = ℕ} 0 1 = ap firstLength (for-below (printTable ipv4 ([] via 0 ∷ tableBelow) ++ rest) meets) in
+      omega arith

@@ -6,26 +6,25 @@ use Prim.Native.Nat.{ℕ, _*_, _≤_, _<_}
 use native.Mathlib.Omega.{arith}
 use borrow.Author.Tests.{le-ltb}
 use lib.ListN.{length, drop, getD}
-use Rattle.theory.specs.Ledger.{nothing}
+use Rattle.theory.specs.Ledger.{Entry, nothing}
 use Rattle.rules.specs.Numbers.{ipv4, recordBytes, mostSlots, ownSlots, mostInput}
 use Rattle.rules.specs.Records.{printAll, printTable}
 use Rattle.rules.specs.Plain.{updated}
-use Rattle.rules.specs.Writing.{writes}
 use Rattle.rules.proofs.Records.{printAll-length}
 use Rattle.memory.specs.Layout.{Memory, zeros, zeroed}
 use Rattle.lists.proofs.Promise as lists
 use Rattle.ledger.specs.Promise.{reported}
 use Rattle.ledger.proofs.Wrong as ledger
-use Rattle.writing.specs.Promise.{bytesFor}
-use Rattle.fresh.specs.Promise.{thenWritten, afterUpdate, tableOf}
-use Rattle.cases.specs.Cases.{Case, after, Holds, caseC, tableC, copyOfC}
+use Rattle.writing.specs.Promise.{bytesFor, intoOutput}
+use Rattle.fresh.specs.Promise.{tabled, afterUpdate, tableOf}
+use Rattle.cases.specs.Cases.{Case, after, Holds, caseC, tableC, copyOfC, caseHalf, tableHalf}
 use Rattle.cases.proofs.Cases.{cases-hold}
 use Rattle.answers.specs.declared.FoundAnswer.{FoundAnswer}
 use Rattle.answers.specs.declared.CountAnswer.{CountAnswer}
 use Rattle.answers.specs.Answers.{numberOf, countFor}
 use Rattle.arvandish.specs.Promise.{LooksUpForC, TablesForC}
 use Rattle.arvandish_ledger.specs.Promise.{UpdatesToC, LooksUpToC, WritesToC}
-use Rattle.program.specs.Promise.{thenTable, afterList, writesFor, Answers}
+use Rattle.program.specs.Promise.{refusalRecord, afterList, writesFor, Answers}
 use Rattle.history.proofs.Room.{more-room}
 use Rattle.history.proofs.Wrong as wrong
 
@@ -40,17 +39,23 @@ listC = printAll ipv4 (caseC .records)
 C-holds : Holds caseC
 C-holds = cases-hold .1 .1 .0
 
--- C's table, and what is left where there is room for it
+-- A case's table there, and what is left where there is room for it
+tabled-at : (c : Case) (T : List Entry) → Holds c → c .result .output ≡ T → c .result .refusal ≡ none → c .slots ≤ ownSlots → (output : List ℕ)
+    → bytesFor T ≤ length output
+    → tableOf ownSlots (printAll ipv4 (c .records)) output
+    ≡ record { refusal = none; count = length T; output = printTable ipv4 T ++ drop (bytesFor T) output }
+unfolding tableOf
+tabled-at c T holds is quiet few output room =
+    ap (λ a. afterUpdate (a .refusal) a output) (at-doors c holds quiet few)
+    ∙ ap (λ f. afterUpdate f (after c) output) (ap (λ a. a .refusal) (holds .answers) ∙ quiet)
+    ∙ ap (λ U. tabled (intoOutput U [] output)) (ap (λ a. a .output) (holds .answers) ∙ is)
+    ∙ rw (le-ltb (length output) (bytesFor T) room)
+
 C-tabled : (output : List ℕ) → bytesFor tableC ≤ length output
     → tableOf ownSlots listC output ≡ record { refusal = none; count = 3; output = printTable ipv4 tableC ++ drop (bytesFor tableC) output }
-unfolding tableOf
-C-tabled output room =
-    ap (λ a. afterUpdate (a .refusal) a output) (at-doors caseC C-holds refl (omega arith))
-    ∙ ap (λ f. afterUpdate f (after caseC) output) (ap (λ a. a .refusal) (C-holds .answers))
-    ∙ ap (λ w. thenWritten w (after caseC .count) output) (ap (λ a. a .output) (C-holds .answers))
-    ∙ rw (le-ltb (length output) (bytesFor tableC) room)
+C-tabled = tabled-at caseC tableC C-holds refl refl (omega arith)
 
--- byte 7 is the hop of the first record, the default route's
+-- byte 7 is the hop of the first record
 abbrev firstHop : List ℕ → ℕ
 firstHop output = getD output 7 0
 
@@ -86,12 +91,17 @@ pub lookup-always-one-breaks : (address : ℕ) (r : FoundAnswer) → LooksUpForC
 lookup-always-one-breaks address r meets one = omega (arith, one, ap (λ a. a .hop) (meets .answer), lists.empty-list address)
 
 -- THE PROGRAM: one that writes nothing, and one that writes its input out
-C-written : writesFor listC ≡ printTable ipv4 tableC
+written-at : (c : Case) → Holds c → c .result .refusal ≡ none → c .slots ≤ ownSlots → length (printAll ipv4 (c .records)) ≤ mostInput
+    → writesFor (printAll ipv4 (c .records)) ≡ printTable ipv4 (c .result .output)
 unfolding writesFor
-C-written =
-    ap (λ a. afterList (a .refusal) a) (at-doors caseC C-holds refl (omega arith))
-    ∙ ap (λ f. afterList f (after caseC)) (ap (λ a. a .refusal) (C-holds .answers))
-    ∙ ap thenTable (ap (λ a. a .output) (C-holds .answers))
+written-at c holds quiet few short =
+    rw (le-ltb mostInput (length (printAll ipv4 (c .records))) short)
+    (ap (λ a. afterList (a .refusal) a) (at-doors c holds quiet few)
+    ∙ ap (λ f. afterList f (after c)) (ap (λ a. a .refusal) (holds .answers) ∙ quiet)
+    ∙ ap (printTable ipv4) (ap (λ a. a .output) (holds .answers)))
+
+C-written : writesFor listC ≡ printTable ipv4 tableC
+C-written = written-at caseC C-holds refl (omega arith) (omega (arith, printAll-length ipv4 (caseC .records)))
 
 pub program-writes-nothing-breaks : (output output' : List ℕ) → mostInput ≤ length output → Answers listC output output' 0 → ⊥
 program-writes-nothing-breaks output output' room answers =
@@ -103,6 +113,20 @@ pub program-copies-its-input-breaks : (output output' : List ℕ) → mostInput 
 program-copies-its-input-breaks output output' room answers =
     let as-many : length listC ≡ length (printTable ipv4 tableC) = answers .stands room .count ∙ ap length C-written in
     let wrong : _≡_ {A = ℕ} 32 24 = sym (printAll-length ipv4 (caseC .records)) ∙ as-many in
+    omega arith
+
+-- WITHOUT A DEFAULT ROUTE: a table call that refuses such a list, and a program that tells a refusal for it
+pub table-refuses-no-default-breaks : (output output' : List ℕ) (r : CountAnswer) → bytesFor tableHalf ≤ length output
+    → TablesForC (printAll ipv4 (caseHalf .records)) output output' r → (r .number ≡ 0 → ⊥) → ⊥
+table-refuses-no-default-breaks output output' r room meets refuses =
+    refuses
+    (ap (λ a. a .number) (meets .answer) ∙ ap (λ t. numberOf (t .refusal)) (tabled-at caseHalf tableHalf wrong.half-holds refl refl (omega arith) output room))
+
+pub program-refuses-no-default-breaks : (number : ℕ) → writesFor (printAll ipv4 (caseHalf .records)) ≡ refusalRecord number 0 → ⊥
+program-refuses-no-default-breaks number tells =
+    let wrong : _≡_ {A = ℕ} 1 255 =
+    ap (λ b. getD b 5 0)
+    (sym (written-at caseHalf wrong.half-holds refl (omega arith) (omega (arith, printAll-length ipv4 (caseHalf .records)))) ∙ tells) in
     omega arith
 
 -- THE LEDGER DOOR: what is wrong of the calls inside is wrong there

@@ -9,14 +9,14 @@ use Rattle.theory.specs.Ledger.{Ledger}
 use Rattle.rules.specs.Numbers.{ipv4, scratchWords, badSlices}
 use Rattle.rules.specs.Plain.{updated}
 use Rattle.rules.specs.Lookup.{Answer, hopOf, lookedUp}
-use Rattle.rules.specs.Writing.{written}
+use Rattle.rules.specs.Writing.{smallestTable}
 use Rattle.memory.specs.Layout.{Memory, zeroed}
 use Rattle.lists.specs.declared.Found.{Found}
 use Rattle.lists.specs.Promise.{answerOf, LooksUpList}
 use Rattle.ledger.specs.declared.Updated.{Updated}
 use Rattle.ledger.specs.Promise.{Report, reportOf, reported, Updates, LooksUp}
 use Rattle.writing.specs.declared.Wrote.{Wrote}
-use Rattle.writing.specs.Promise.{Outcome, outcomeOf, unchanged, writtenInto, Writes}
+use Rattle.writing.specs.Promise.{Outcome, outcomeOf, unchanged, intoOutput, Writes}
 
 -- WHAT IS ASKED: one call, with all that is lent beside the memory. Any list, any address, any scratch and any output.
 pub data Ask : Type 0 where
@@ -37,7 +37,7 @@ plainReply n L (updating list) = updated-so (reported (updated ipv4 n L list))
 plainReply n L (looking-up x) = found-so (record { refusal = none; hop = hopOf ipv4 L x; place = 0 })
 plainReply n L (looking-up-in list x) = found-so (lookedUp ipv4 list x)
 plainReply n L (writing scratch output) =
-    wrote-so (cond (eqb (length scratch) (scratchWords n)) (writtenInto (written ipv4 L) scratch output) (unchanged badSlices scratch output))
+    wrote-so (cond (eqb (length scratch) (scratchWords n)) (intoOutput (smallestTable ipv4 L) scratch output) (unchanged badSlices scratch output))
 
 abbrev pub plainAfter : ℕ → Ledger ℕ → Ask → Ledger ℕ
 plainAfter n L (updating list) = updated ipv4 n L list .ledger

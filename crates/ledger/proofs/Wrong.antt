@@ -46,7 +46,7 @@ module _ (n : ℕ) (some-slot : 0 < n) (few : n ≤ mostSlots) where
 
   pub default-taken : updateOf (zeroed n) default ≡ record { refusal = none; count = 1; ledger = announce nothing [] 1 }
   default-taken =
-      from-zeros n some-slot few default ∙ one-record n (announces [] 1) (omega arith, (omega arith, omega arith))
+      from-zeros n some-slot few default ∙ one-record n (announces [] 1) (omega arith, omega arith)
       ∙ rw (le-leb (needs {A = ℕ} (width ipv4) (announce nothing [] 1)) n (omega (arith, needs-alone ℕ (width ipv4) [] 1 (omega arith))))
 
   -- AN UPDATE THAT REFUSES EVERYTHING

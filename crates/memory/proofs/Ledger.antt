@@ -1,8 +1,8 @@
 -- The ledger that a memory holds: it is within the record rules in any memory, a prefix's slot has its hop, and longest match
 -- is what a walk along a path has in force.
-use mathlib.Core.Path.{_≡_, sym, ap, ap₂, _∙_}
+use mathlib.Core.Path.{_≡_, refl, sym, ap, ap₂, _∙_}
 use mathlib.Core.Logic.{inl, inr}
-use mathlib.Core.Bool.{Bool, true}
+use mathlib.Core.Bool.{Bool, true, false}
 use mathlib.Core.List.{[], reverse, reverse-reverse}
 use mathlib.Core.Option.{none, some}
 use Prim.Native.Nat.{ℕ, zero, suc, _+_, _-_, _≤_, _<_}
@@ -16,25 +16,28 @@ use Rattle.theory.specs.Ledger.{isHeld, orElse, longest}
 use Rattle.theory.proofs.Hops.{by-test, never}
 use Rattle.theory.proofs.Longest.{none-some}
 use Rattle.theory.proofs.Walk.{best, prefix-length, longest-walk}
-use Rattle.rules.specs.Numbers.{lowestHop, highestHop, MayAnnounce}
+use Rattle.rules.specs.Numbers.{highestHop, MayAnnounce}
 use Rattle.rules.specs.Plain.{WithinRules}
 use Rattle.memory.specs.Layout.{Memory, slots, Whole, find, readHop, hopAt, ledgerOf}
 use Rattle.memory.proofs.Find.{same-or, below-or, none-deeper, find-le}
 
 -- What a stored number stands for.
-pub hop-low : (v : ℕ) → v ≤ lowestHop → readHop v ≡ none
+pub hop-none : readHop 0 ≡ none
 unfolding readHop
-hop-low v l = rw (le-ltb lowestHop v l)
+hop-none = refl
+
+pub holds-none : (v : ℕ) → v ≡ 0 → false ≡ isHeld (readHop v)
+holds-none v e = rw (e, hop-none)
 
 pub hop-high : (v : ℕ) → suc highestHop < v → readHop v ≡ none
 unfolding readHop
-hop-high v l = rw (lt-ltb lowestHop v (omega arith), lt-leb v (suc highestHop) l)
+hop-high v l = rw (lt-ltb 0 v (omega arith), lt-leb v (suc highestHop) l)
 
-pub hop-stored : (v : ℕ) → lowestHop < v → v ≤ suc highestHop → readHop v ≡ some (v - 1)
+pub hop-stored : (v : ℕ) → 0 < v → v ≤ suc highestHop → readHop v ≡ some (v - 1)
 unfolding readHop
-hop-stored v l h = rw (lt-ltb lowestHop v l, le-leb v (suc highestHop) h)
+hop-stored v l h = rw (lt-ltb 0 v l, le-leb v (suc highestHop) h)
 
-pub hop-test : (v : ℕ) → lowestHop < v → leb v (suc highestHop) ≡ isHeld (readHop v)
+pub hop-test : (v : ℕ) → 0 < v → leb v (suc highestHop) ≡ isHeld (readHop v)
 hop-test v l =
     elim (by-test (leb v (suc highestHop))) [
       | inl e ↦ rw (e, hop-stored v l (leb-true v (suc highestHop) e))
@@ -42,22 +45,21 @@ hop-test v l =
     ]
 
 -- a number that stands for a hop lies in the hops' range moved up by 1, so it is not 0, and the hop is 1 less
-stored-range : (v : ℕ) → isHeld (readHop v) ≡ true → (lowestHop < v) × (v ≤ suc highestHop)
+stored-range : (v : ℕ) → isHeld (readHop v) ≡ true → (0 < v) × (v ≤ suc highestHop)
 stored-range v h =
-    elim (below-or lowestHop v) [
-      | inr low ↦ never h (ap isHeld (hop-low v low))
+    elim (below-or 0 v) [
+      | inr low ↦ never h (sym (holds-none v (omega arith)))
       | inl low ↦ elim (below-or (suc highestHop) v) [ inl high ↦ never h (ap isHeld (hop-high v high)) | inr high ↦ (low, high) ]
     ]
 
 pub held-stored : (v : ℕ) → isHeld (readHop v) ≡ true → (0 < v) × (readHop v ≡ some (v - 1))
-held-stored v h = let range = stored-range v h in (omega arith, hop-stored v (range .0) (range .1))
+held-stored v h = let range = stored-range v h in (range .0, hop-stored v (range .0) (range .1))
 
 pub read-range : (v h : ℕ) → readHop v ≡ some h → MayAnnounce h
 read-range v h e =
     let range = stored-range v (ap isHeld e) in
     let stored = hop-stored v (range .0) (range .1) in
-    let less : v - 1 ≡ h = cc in
-    (omega arith, omega arith)
+    let less : v - 1 ≡ h = cc in omega arith
 
 module _ (w : ℕ) (m : Memory) where
   pub ledger-at : (s : Bits) → length s ≤ w → ledgerOf w m s ≡ hopAt m (find (m .tree) (reverse s))
@@ -84,7 +86,7 @@ module _ (w : ℕ) (m : Memory) where
 
   module _ (whole : Whole m) where
     pub no-hop : (k : ℕ) → slots (m .tree) ≤ k → hopAt m k ≡ none
-    no-hop k l = rw (List·getD-eq-default (m .hop) 0 {n = k} (omega (arith, whole .hops))) (hop-low 0 (omega arith))
+    no-hop k l = rw (List·getD-eq-default (m .hop) 0 {n = k} (omega (arith, whole .hops))) hop-none
 
     -- where one bit more of a path has no slot, what is in force stays so
     pub best-stays : (f : ℕ → Bool) (x d e : ℕ) → find (m .tree) (front f (suc d)) ≡ slots (m .tree) → d ≤ e → e ≤ w

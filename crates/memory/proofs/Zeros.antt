@@ -12,7 +12,7 @@ use Rattle.memory.specs.Layout.{slots, layoutSlots, Whole, link, find, r
 use Rattle.memory.specs.Tidy.{Tidy}
 use Rattle.memory.proofs.Find.{below-or}
 use Rattle.memory.proofs.Chain.{zeros-chained}
-use Rattle.memory.proofs.Ledger.{hop-low, ledger-at, ledger-long}
+use Rattle.memory.proofs.Ledger.{hop-none, ledger-at, ledger-long}
 
 -- every element of a zeroed slice, and what lies behind it, reads as 0
 zeros-length : (n : ℕ) → length (zeros n) ≡ n
@@ -33,7 +33,7 @@ module _ (n : ℕ) where
 
   no-hop : (k : ℕ) → hopAt (zeroed n) k ≡ none
   unfolding zeroed
-  no-hop k = ap readHop (zero-at n k) ∙ hop-low 0 (omega arith)
+  no-hop k = ap readHop (zero-at n k) ∙ hop-none
 
   pub zeroed-ledger : (w : ℕ) → ledgerOf w (zeroed n) ≡ nothing
   zeroed-ledger w =

@@ -11,7 +11,7 @@ use lib.Dec.{ltb, leb, eqb}
 use lib.ListN.{length, getD, replicate}
 use Rattle.theory.specs.Bits.{Bits}
 use Rattle.theory.specs.Ledger.{Ledger}
-use Rattle.rules.specs.Numbers.{lowestHop, highestHop}
+use Rattle.rules.specs.Numbers.{highestHop}
 
 -- what is lent: the links make the tree, and each slot has its hop
 pub record Tree : Type 0 where
@@ -69,7 +69,7 @@ find t (b ∷ s) = child t b (find t s)
 
 -- a slot's hop is stored as hop + 1, so that 0 is none; a number that stands for no hop that may be announced is none too
 unfoldable pub readHop : ℕ → Option ℕ
-readHop v = cond (ltb lowestHop v && leb v (suc highestHop)) (some (v - 1)) none
+readHop v = cond (ltb 0 v && leb v (suc highestHop)) (some (v - 1)) none
 
 abbrev pub hopAt : Memory → ℕ → Option ℕ
 hopAt m k = readHop (getD (m .hop) k 0)

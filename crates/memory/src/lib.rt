@@ -10,7 +10,6 @@ ghost use Rattle.memory.specs.Path.{pathBit, pathBits};
 ghost use Rattle.memory.specs.Layout.{treeOf, memoryOf, layoutSlots, Shaped, Whole, linkIn, mark, child, find, readHop, ledgerOf};
 ghost use Rattle.memory.specs.Reach.{Reaches};
 use numbers::HIGHEST_HOP;
-use numbers::LOWEST_HOP;
 use numbers::NO_ROUTE;
 
 // The bits of an address, the first one highest: 64 in `high`, the next 64 in `low`.
@@ -113,7 +112,7 @@ pub fn seek(lo: &[u32], hi: &[u32], up: &[u32], path: Path, size: usize) -> usiz
 pub fn holds(stored: u32) -> bool
     ensures { λ r. ⌜ r ≡ isHeld (readHop stored) ⌝ }
 {
-    if stored <= LOWEST_HOP {
+    if stored == 0 {
         return false;
     }
     stored <= HIGHEST_HOP + 1

@@ -25,22 +25,26 @@ pub const ANNOUNCE: u8 = 1;
 
 pub const WITHDRAW: u8 = 2;
 
-// The hops that may be announced, the one that a withdrawal carries, and the answer where there is no route.
-pub const LOWEST_HOP: u32 = 1;
+// Discard is hop 0, and the hops that may be announced go from there to the highest. A withdrawal carries none. An address without a
+// route is discarded.
+pub const DISCARD: u32 = 0;
 
 pub const HIGHEST_HOP: u32 = 64;
 
 pub const NO_HOP: u32 = 0;
 
-pub const NO_ROUTE: u32 = 0;
+pub const NO_ROUTE: u32 = DISCARD;
 
 // Slots that may be lent: at least one, and at most this many.
 pub const MOST_SLOTS: usize = 65536;
 
+// The words of scratch that a slot's set takes.
+pub const SET_WORDS: usize = 2;
+
 // The fresh ledger that the daemon's table call and the program have of their own: its slots, and the words of scratch for them.
 pub const OWN_SLOTS: usize = 4096;
 
-pub const OWN_SCRATCH: usize = OWN_SLOTS;
+pub const OWN_SCRATCH: usize = SET_WORDS * OWN_SLOTS;
 
 // The bytes that the program takes, and what stands for the action in a record that it writes for a refusal.
 pub const MOST_INPUT: usize = 4096;
@@ -65,8 +69,6 @@ pub const BAD_HOP: u32 = 7;
 pub const NOT_HELD: u32 = 8;
 
 pub const NO_SLOTS: u32 = 9;
-
-pub const NO_DEFAULT: u32 = 10;
 
 pub const SHORT_OUTPUT: u32 = 11;
 

@@ -1,16 +1,15 @@
 -- What the table call answers is what the program has to write: its table stands there, and each refusal is told by its record. An output
 -- as long as the input is always enough, so 11 never comes.
 use mathlib.Core.Path.{_≡_, refl, sym, ap, subst, _∙_}
-use mathlib.Core.Bool.{true}
-use mathlib.Core.List.{List, [], _++_}
+use mathlib.Core.List.{List, _++_}
 use mathlib.Core.Option.{none, some}
 use Prim.Native.Nat.{ℕ, _*_, _≤_, _<_}
 use native.Mathlib.Omega.{arith}
 use lib.ListN.{length, drop, length-append}
 use borrow.Author.Tests.{lt-ltb, le-ltb}
-use Rattle.theory.specs.Ledger.{nothing, isHeld}
+use Rattle.theory.specs.Ledger.{nothing}
 use Rattle.theory.proofs.Longest.{none-some}
-use Rattle.rules.specs.Numbers.{ipv4, recordBytes, ownSlots, mostInput, badListLength, noSlots, noDefault, longInput}
+use Rattle.rules.specs.Numbers.{ipv4, recordBytes, ownSlots, mostInput, badListLength, noSlots, longInput}
 use Rattle.rules.specs.Records.{printTable}
 use Rattle.rules.specs.Plain.{Applied, updated}
 use Rattle.rules.specs.Writing.{smallestTable}
@@ -19,7 +18,7 @@ use Rattle.rules.proofs.Numbered.{Between, update-between}
 use Rattle.rules.proofs.Held.{few-applied, table-fits}
 use Rattle.writing.specs.declared.Wrote.the-variants.{Table, Refused}
 use Rattle.fresh.specs.Promise.{Tabled, tableOf, Tables}
-use Rattle.fresh.proofs.Promise.{Way, stops, no-default, short, writes-it, way}
+use Rattle.fresh.proofs.Promise.{Way, stops, short, writes-it, way}
 use Rattle.program.specs.Promise.{refusalRecord, afterList, writesFor, Stands, Answers, Refuses}
 
 -- 12: before any other fault
@@ -35,9 +34,9 @@ module _ (input : List ℕ) (not-long : length input ≤ mostInput) where
   unfolding writesFor
   as-list = rw (le-ltb mostInput (length input) not-long)
 
-  -- nothing refused, and a default route held: the smallest table's bytes
-  pub writes-table : A .refusal ≡ none → isHeld (A .ledger []) ≡ true → writesFor input ≡ printTable ipv4 (smallestTable ipv4 (A .ledger))
-  writes-table quiet held = as-list ∙ ap (λ f. afterList f A) quiet ∙ rw held
+  -- nothing refused: the smallest table's bytes
+  pub writes-table : A .refusal ≡ none → writesFor input ≡ printTable ipv4 (smallestTable ipv4 (A .ledger))
+  writes-table quiet = as-list ∙ ap (λ f. afterList f A) quiet
 
 module _ (input output : List ℕ) (not-long : length input ≤ mostInput) (room : mostInput ≤ length output) where
   abbrev plain : Applied
@@ -47,12 +46,11 @@ module _ (input output : List ℕ) (not-long : length input ≤ mostInput) (room
   table-way : (t : Tabled) → Way ownSlots input output t → t .refusal ≡ none
       → (t .count * recordBytes ipv4 ≤ length input) × Stands (writesFor input) output (t .output) (t .count * recordBytes ipv4)
   table-way t (stops x e) quiet = none-some refl quiet
-  table-way t (no-default e h) quiet = none-some refl quiet
-  table-way t (short e h l) quiet = none-some refl quiet
-  table-way t (writes-it e h l) quiet =
+  table-way t (short e l) quiet = none-some refl quiet
+  table-way t (writes-it e l) quiet =
       let T = smallestTable ipv4 (plain .ledger) in (
-        table-fits ipv4 ownSlots input (omega arith) h,
-        subst (λ b. Stands b output (t .output) (t .count * recordBytes ipv4)) (sym (writes-table input not-long e h))
+        table-fits ipv4 ownSlots input (omega arith),
+        subst (λ b. Stands b output (t .output) (t .count * recordBytes ipv4)) (sym (writes-table input not-long e))
             record { count = sym (table-length ipv4 T); left = ap (λ k. printTable ipv4 T ++ drop k output) (sym (table-length ipv4 T)) },
       )
 
@@ -66,9 +64,8 @@ module _ (input output : List ℕ) (not-long : length input ≤ mostInput) (room
   -- A REFUSAL: the output is as it was, and the number and the place are those of the record that tells it
   pub record Told (x c : ℕ) : Type 0 where
     pub a-byte : x < 256
-    pub whole-call : x ≡ noDefault → writesFor input ≡ refusalRecord x 0
-    pub at-place : (x ≡ noDefault → ⊥) → writesFor input ≡ refusalRecord x c
-    pub near : (x ≡ noDefault → ⊥) → c ≤ mostInput
+    pub at-place : writesFor input ≡ refusalRecord x c
+    pub near : c ≤ mostInput
 
   told-way : (t : Tabled) → Way ownSlots input output t → (x : ℕ) → t .refusal ≡ some x → (t .output ≡ output) × Told x (t .count)
   told-way t (stops y e) x is =
@@ -77,23 +74,12 @@ module _ (input output : List ℕ) (not-long : length input ≤ mostInput) (room
         refl,
         record {
           a-byte = omega (arith, in-range .1, same);
-          whole-call = λ d. absurd (omega (arith, in-range .1, same, d));
-          at-place = λ d. as-list input not-long ∙ ap (λ f. afterList f plain) (e ∙ is);
-          near = λ d. omega (arith, few-applied ipv4 ownSlots input nothing, not-long);
+          at-place = as-list input not-long ∙ ap (λ f. afterList f plain) (e ∙ is);
+          near = omega (arith, few-applied ipv4 ownSlots input nothing, not-long);
         },
       )
-  told-way t (no-default e h) x is =
-      let same : noDefault ≡ x = cc in (
-        refl,
-        record {
-          a-byte = omega (arith, same);
-          whole-call = λ d. as-list input not-long ∙ ap (λ f. afterList f plain) e ∙ rw (h, same);
-          at-place = λ d. absurd (d (sym same));
-          near = λ d. absurd (d (sym same));
-        },
-      )
-  told-way t (short e h l) x is = absurd (omega (arith, l, table-fits ipv4 ownSlots input (omega arith) h, room, not-long))
-  told-way t (writes-it e h l) x is = none-some is refl
+  told-way t (short e l) x is = absurd (omega (arith, l, table-fits ipv4 ownSlots input (omega arith), room, not-long))
+  told-way t (writes-it e l) x is = none-some is refl
 
   pub refusal-told : (output' : List ℕ) (x c : ℕ) → Tables input output output' (Refused x c) → (output' ≡ output) × Told x c
   refusal-told output' x c meets =
@@ -147,17 +133,11 @@ module _ (input output : List ℕ) (room : mostInput ≤ length output) (fits : 
     pub number-fits : x < 256
     number-fits = told .1 .a-byte
 
-    pub place-fits : (x ≡ noDefault → ⊥) → c < 4294967296
-    place-fits other = omega (arith, told .1 .near other)
+    pub place-fits : c < 4294967296
+    place-fits = omega (arith, told .1 .near)
 
-    answers-refusal : (place : ℕ) → writesFor input ≡ refusalRecord x place → (output₂ : List ℕ) (r : ℕ)
-        → Refuses x place output' output₂ r → Answers input output output₂ r
-    answers-refusal place is output₂ r refuses =
+    pub answers-refusal : (output₂ : List ℕ) (r : ℕ) → Refuses x c output' output₂ r → Answers input output output₂ r
+    answers-refusal output₂ r refuses =
         answers-so input output output₂ r room
-        (subst (λ b. Stands b output output₂ r) (sym is) (subst (λ o. Stands (refusalRecord x place) o output₂ r) (told .0) (refuses .tells)))
-
-    pub answers-whole-call : x ≡ noDefault → (output₂ : List ℕ) (r : ℕ) → Refuses x 0 output' output₂ r → Answers input output output₂ r
-    answers-whole-call e = answers-refusal 0 (told .1 .whole-call e)
-
-    pub answers-record : (x ≡ noDefault → ⊥) → (output₂ : List ℕ) (r : ℕ) → Refuses x c output' output₂ r → Answers input output output₂ r
-    answers-record other = answers-refusal c (told .1 .at-place other)
+        (subst (λ b. Stands b output output₂ r) (sym (told .1 .at-place))
+        (subst (λ o. Stands (refusalRecord x c) o output₂ r) (told .0) (refuses .tells)))

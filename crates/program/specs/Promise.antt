@@ -11,20 +11,15 @@ use Rattle.theory.specs.Ledger.{nothing}
 use Rattle.rules.specs.Numbers.{ipv4, ownSlots, mostInput, refusalMark, longInput}
 use Rattle.rules.specs.Records.{bytesOf, printTable}
 use Rattle.rules.specs.Plain.{Applied, updated}
-use Rattle.rules.specs.Writing.{Written, writes, refuses, written}
+use Rattle.rules.specs.Writing.{smallestTable}
 
 -- THE RECORD OF A REFUSAL: the place in bytes 0 to 3, high byte first, the number in byte 4, 255 in byte 5, zeros in 6 and 7
 abbrev pub refusalRecord : ℕ → ℕ → List ℕ
 refusalRecord number place = bytesOf ipv4 place ++ number ∷ refusalMark ∷ 0 ∷ 0 ∷ []
 
--- place 0 for a refusal of the whole call, 10 included; the list's refusals have the place of the refused record, which is the count
--- of those applied before it (0 for 3)
-abbrev pub thenTable : Written → List ℕ
-thenTable (writes T) = printTable ipv4 T
-thenTable (refuses x) = refusalRecord x 0
-
+-- a refusal has the place of the refused record, which is the count of those applied before it, and so 0 for 3, which refuses the whole call
 abbrev pub afterList : Option ℕ → Applied → List ℕ
-afterList none a = thenTable (written ipv4 (a .ledger))
+afterList none a = printTable ipv4 (smallestTable ipv4 (a .ledger))
 afterList (some x) a = refusalRecord x (a .count)
 
 -- FOR EVERY INPUT: one that is too long is answered before any other fault

@@ -7,7 +7,6 @@ use numbers::ACTION_AT;
 use numbers::HOP_AT;
 use numbers::LONG_INPUT;
 use numbers::MOST_INPUT;
-use numbers::NO_DEFAULT;
 use numbers::RECORD;
 use numbers::REFUSAL;
 use numbers::SIZE_AT;
@@ -44,11 +43,6 @@ pub fn answer(input: &[u8], output: &mut [u8]) -> usize
     let wrote = fresh::table(input, output);
     match wrote {
         Wrote::Table { count } => count * RECORD,
-        Wrote::Refused { number, count } => {
-            if number == NO_DEFAULT {
-                return refuse(output, number as u8, 0);
-            }
-            refuse(output, number as u8, count as u32)
-        }
+        Wrote::Refused { number, count } => refuse(output, number as u8, count as u32),
     }
 }

@@ -13,7 +13,7 @@ use lib.Seq.{drop-cons, take-take, take-add, drop-at, drop-drop, getD-take, getD
 use lib.Dec.{eqb}
 use borrow.Author.Tests.{lt-ltb, le-ltb, eq-eqb, ne-eqb}
 use Rattle.theory.specs.Bits.{bitsOf}
-use Rattle.rules.specs.Numbers.{ipv4, width, recordBytes, announceAction, withdrawAction, lowestHop, highestHop, badPrefixLength, strayBit, badAction, badHop}
+use Rattle.rules.specs.Numbers.{ipv4, width, recordBytes, announceAction, withdrawAction, highestHop, badPrefixLength, strayBit, badAction, badHop}
 use Rattle.rules.specs.Records.{number, announces, withdraws, Fields, fieldsOf, Use, takesWithdrawals, strayBits, badHopFor, fieldRules, firstFault, Reading, means, faulty, meaning, faultOr, read}
 use Rattle.records.specs.declared.Record.{Record}
 use Rattle.records.specs.declared.Record.the-variants.{Announces, Withdraws, Faulty}
@@ -84,15 +84,11 @@ module _ {u : Use} {w : ℕ} {f : Fields} where
 
   module _ (k : Clean w f) where
     module _ (a : f .action ≡ announceAction) where
-      pub low-hop : f .hop < lowestHop → Judged u w f (faulty badHop)
-      low-hop h = record { gives = past u w f k ∙ rw (eq-eqb (f .action) announceAction a, lt-ltb (f .hop) lowestHop h) }
+      pub high-hop : highestHop < f .hop → Judged u w f (faulty badHop)
+      high-hop h = record { gives = past u w f k ∙ rw (eq-eqb (f .action) announceAction a, lt-ltb highestHop (f .hop) h) }
 
-      pub high-hop : lowestHop ≤ f .hop → highestHop < f .hop → Judged u w f (faulty badHop)
-      high-hop l h = record { gives = past u w f k ∙ rw (eq-eqb (f .action) announceAction a, le-ltb (f .hop) lowestHop l, lt-ltb highestHop (f .hop) h) }
-
-      announced : lowestHop ≤ f .hop → f .hop ≤ highestHop
-          → Judged u w f (means (announces (take (f .size) (bitsOf w (f .address))) (f .hop)))
-      announced l h = record { gives = past u w f k ∙ rw (eq-eqb (f .action) announceAction a, le-ltb (f .hop) lowestHop l, le-ltb highestHop (f .hop) h) }
+      announced : f .hop ≤ highestHop → Judged u w f (means (announces (take (f .size) (bitsOf w (f .address))) (f .hop)))
+      announced h = record { gives = past u w f k ∙ rw (eq-eqb (f .action) announceAction a, le-ltb highestHop (f .hop) h) }
 
     module _ (a : f .action ≡ announceAction → ⊥) where
       pub no-withdrawals : takesWithdrawals u ≡ false → Judged u w f (faulty badAction)
@@ -143,11 +139,11 @@ module _ {l : List ℕ} {at : ℕ} {withdrawals : Bool} {address hop : ℕ} (fet
   faults {n} numbered e = answers (Faulty n) e numbered
 
   module _ (k : Clean (width ipv4) (fieldsAt l at address hop)) where
-    pub answers-announces : getD l (at + 5) 0 ≡ announceAction → lowestHop ≤ hop → hop ≤ highestHop
+    pub answers-announces : getD l (at + 5) 0 ≡ announceAction → hop ≤ highestHop
         → ReadsRecord l at withdrawals (Announces address (getD l (at + 4) 0) hop)
     unfolding readingOf InBounds
-    answers-announces a low high =
-        answers (Announces address (getD l (at + 4) 0) hop) (announced k a low high) (record { prefix = clean-prefix fetched k; may = (low, high) })
+    answers-announces a high =
+        answers (Announces address (getD l (at + 4) 0) hop) (announced k a high) (record { prefix = clean-prefix fetched k; may = high })
 
     pub answers-withdraws : (getD l (at + 5) 0 ≡ announceAction → ⊥) → takesWithdrawals (useOf withdrawals) ≡ true → getD l (at + 5) 0 ≡ withdrawAction → hop ≡ 0
         → ReadsRecord l at withdrawals (Withdraws address (getD l (at + 4) 0))

@@ -16,7 +16,6 @@ use numbers::BAD_PREFIX_LENGTH;
 use numbers::HIGHEST_HOP;
 use numbers::HOP_AT;
 use numbers::LENGTHS;
-use numbers::LOWEST_HOP;
 use numbers::NO_HOP;
 use numbers::SIZE_AT;
 use numbers::STRAY_BIT;
@@ -78,9 +77,6 @@ pub fn read_record(list: &[u8], at: usize, withdrawals: bool, masks: &[u32; LENG
         return Record::Faulty { number: STRAY_BIT };
     }
     if action == ANNOUNCE {
-        if hop < LOWEST_HOP {
-            return Record::Faulty { number: BAD_HOP };
-        }
         if HIGHEST_HOP < hop {
             return Record::Faulty { number: BAD_HOP };
         }

@@ -131,9 +131,9 @@ module _ (k slots : ℕ) (bytes : List ℕ) where
       omega (arith, mul-le-mul-right (recordBytes k) few, div-add-mod' (length bytes) (recordBytes k))
 
   -- THE TABLE of what the list makes has no more bytes than the list
-  pub table-fits : 0 < slots → isHeld (updated k slots nothing bytes .ledger []) ≡ true
+  pub table-fits : 0 < slots
       → length (smallestTable k (updated k slots nothing bytes .ledger)) * recordBytes k ≤ length bytes
-  table-fits some-slot default =
+  table-fits some-slot =
       let L = updated k slots nothing bytes .ledger in
       let kept = updated-kept k slots nothing bytes (record { within = nothing-within (width k); fits = omega (arith, needs-nothing ℕ (width k)) }) in
-      omega (arith, mul-le-mul-right (recordBytes k) (smallest-for k L (kept .within) default .at-most-held), few-held)
+      omega (arith, mul-le-mul-right (recordBytes k) (smallest-for k L (kept .within) .at-most-held), few-held)

@@ -1,13 +1,11 @@
--- THE THEOREM IN DOCUMENT 01'S WORDS: width 32, hops 1 to 64, all 4,294,967,296 addresses, every plain ledger with a
--- default route.
+-- THE THEOREM IN DOCUMENT 01'S WORDS: width 32, hops 0 to 64, all 4,294,967,296 addresses, every plain ledger.
 use mathlib.Core.Path.{_≡_, ap}
-use mathlib.Core.Bool.{true}
-use mathlib.Core.List.{List, []}
+use mathlib.Core.List.{List}
 use mathlib.Core.Option.{none}
 use Prim.Native.Nat.{ℕ, _≤_, _<_}
 use native.Mathlib.Omega.{arith}
 use lib.ListN.{length}
-use Rattle.theory.specs.Ledger.{Ledger, Entry, isHeld, load}
+use Rattle.theory.specs.Ledger.{Ledger, Entry, load}
 use Rattle.rules.specs.Numbers.{ipv4, width}
 use Rattle.rules.specs.Records.{printTable}
 use Rattle.rules.specs.Plain.{Reached, at-first, after, WithinRules}
@@ -24,13 +22,13 @@ reached-kept k slots lent L at-first =
     record { within = nothing-within (width k); fits = omega (arith, needs-nothing ℕ (width k)) }
 reached-kept k slots lent L (after {L = M} r bytes) = updated-kept k slots M bytes (reached-kept k slots lent M r)
 
-module _ (slots : ℕ) (lent : 1 ≤ slots) (L : Ledger ℕ) (reached : Reached ipv4 slots L) (default : isHeld (L []) ≡ true) where
+module _ (slots : ℕ) (lent : 1 ≤ slots) (L : Ledger ℕ) (reached : Reached ipv4 slots L) where
   within : WithinRules (width ipv4) L
   within = reached-kept ipv4 slots lent L reached .within
 
   -- everything that is promised of the table
   pub smallest : SmallestFor ipv4 L (smallestTable ipv4 L)
-  smallest = smallest-for ipv4 L within default
+  smallest = smallest-for ipv4 L within
 
   -- in full words: it agrees on all addresses, ..
   pub agrees-everywhere : (x : ℕ) → x < 4294967296 → hopOf ipv4 (load (smallestTable ipv4 L)) x ≡ hopOf ipv4 L x
@@ -43,11 +41,11 @@ module _ (slots : ℕ) (lent : 1 ≤ slots) (L : Ledger ℕ) (reached : Reached 
 
   -- .. and its records, looked up as a list, answer as the ledger does
   pub reads-back : scanned ipv4 (printTable ipv4 (smallestTable ipv4 L)) ≡ record { refusal = none; place = 0; entries = smallestTable ipv4 L }
-  reads-back = table-reads-back ipv4 L within default
+  reads-back = table-reads-back ipv4 L within
 
   pub looked-up : (x : ℕ) → x < 4294967296
       → lookedUp ipv4 (printTable ipv4 (smallestTable ipv4 L)) x ≡ record { refusal = none; hop = hopOf ipv4 L x; place = 0 }
-  looked-up = table-looked-up ipv4 L within default
+  looked-up = table-looked-up ipv4 L within
 
 -- two ledgers that forward alike write the same bytes
 pub same-bytes : (L M : Ledger ℕ) → ForwardAlike ipv4 L M

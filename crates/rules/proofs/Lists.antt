@@ -2,7 +2,7 @@
 -- so is shorter, because a list that is not refused has an entry for each of its records.
 use mathlib.Core.Path.{_≡_, refl, ap, _∙_}
 use mathlib.Core.Logic.{inl, inr}
-use mathlib.Core.Bool.{true, cond}
+use mathlib.Core.Bool.{cond}
 use mathlib.Core.List.{List, [], _∷_, map}
 use mathlib.Core.Option.{none}
 use Prim.Native.Nat.{ℕ, zero, suc, _*_, _/_, _%_, _≤_}
@@ -60,17 +60,17 @@ module _ (k : ℕ) (L : Ledger ℕ) where
       let hop : cond (isHeld (s .refusal)) 0 (hopOf k (load (s .entries)) x) ≡ hopOf k L x = ap (λ a. a .hop) (same x l) in
       rw (answers-quiet bytes same) at hop
 
-  module _ (ok : WithinRules (width k) L) (default : isHeld (L []) ≡ true) where
+  module _ (ok : WithinRules (width k) L) where
     -- the table's records, looked up as a list, are its entries and answer as the ledger does
     pub table-reads-back : scanned k (printTable k (smallestTable k L)) ≡ record { refusal = none; place = 0; entries = smallestTable k L }
-    table-reads-back = let all = smallest-for k L ok default in scanned-table k (smallestTable k L) (all .proper) (all .real-hops)
+    table-reads-back = scanned-table k (smallestTable k L) (smallest-for k L ok .proper)
 
     pub table-looked-up : AnswersAs k L (printTable k (smallestTable k L))
     unfolding lookedUp
-    table-looked-up x l = rw (table-reads-back, smallest-for k L ok default .agrees x l)
+    table-looked-up x l = rw (table-reads-back, smallest-for k L ok .agrees x l)
 
     -- RECORD LISTS ARE NOT SHORTER
     pub no-shorter-list : (bytes : List ℕ) → AnswersAs k L bytes → length (smallestTable k L) * recordBytes k ≤ length bytes
     no-shorter-list bytes same =
-        let fewest = smallest-for k L ok default .fewest (scanned k bytes .entries) (answers-forward bytes same) in
+        let fewest = smallest-for k L ok .fewest (scanned k bytes .entries) (answers-forward bytes same) in
         omega (arith, mul-le-mul-right (recordBytes k) fewest, scanned-count k bytes (answers-quiet bytes same))

@@ -1,6 +1,7 @@
--- Which numbers a refusal can have: 3 to 7 where a list is looked up, 3 to 9 in an update. None is 0; so where an answer is told as a
+-- Which numbers a refusal can have: 3 to 7 where a list is looked up, 3 to 9 in an update, and 11 in a writing. None is 0; so where an answer is told as a
 -- number, 0 says that nothing was refused.
-use mathlib.Core.Logic.{inl, inr}
+use mathlib.Core.Path.{_≡_}
+use mathlib.Core.Logic.{_⊎_, inl, inr}
 use mathlib.Core.Bool.{true, false}
 use mathlib.Core.List.{List, [], _∷_, map}
 use mathlib.Core.Option.{Option, none, some}
@@ -10,7 +11,7 @@ use lib.Dec.{leb}
 use Rattle.theory.specs.Bits.{Each}
 use Rattle.theory.specs.Ledger.{Ledger, isHeld, announce, withdraw}
 use Rattle.theory.proofs.Hops.{by-test}
-use Rattle.rules.specs.Numbers.{width, badListLength, badHop, noSlots}
+use Rattle.rules.specs.Numbers.{width, badListLength, badHop, noSlots, shortOutput}
 use Rattle.rules.specs.Records.{Change, announces, withdraws, Use, update, lookup, Rule, _refusedBy_, fieldsOf, fieldRules, firstFault, Reading, means, faulty, meaning, faultOr, read, recordsOf, wholeRecords}
 use Rattle.rules.specs.Plain.{needs, Outcome, taken, refused, ifRoom, change, apply, Applied, next, applyAll, updated}
 use Rattle.rules.specs.Lookup.{scanAll, scanned, lookedUp}
@@ -19,6 +20,11 @@ use Rattle.rules.specs.Lookup.{scanAll, scanned, lookedUp}
 abbrev pub Between : ℕ → ℕ → Option ℕ → Type 0
 Between least most none = Unit {0}
 Between least most (some x) = (least ≤ x) × (x ≤ most)
+
+-- of a call that writes it can be 11, too
+abbrev pub BetweenOrShort : ℕ → ℕ → Option ℕ → Type 0
+BetweenOrShort least most none = Unit {0}
+BetweenOrShort least most (some x) = ((least ≤ x) × (x ≤ most)) ⊎ (x ≡ shortOutput)
 
 -- RULES: the first that is broken has its number
 module _ (least most : ℕ) where

@@ -15,7 +15,7 @@ use Rattle.theory.proofs.Hops.{by-test, never}
 use Rattle.theory.proofs.Longest.{none-some}
 use Rattle.theory.proofs.Address.{bits-length}
 use Rattle.theory.proofs.Strings.{same-true}
-use Rattle.rules.specs.Numbers.{width, lowestHop, highestHop, announceAction}
+use Rattle.rules.specs.Numbers.{width, highestHop, announceAction}
 use Rattle.rules.specs.Records.{Change, announces, withdraws, ProperChange, Fields, fieldsOf, Use, update, Rule, _refusedBy_, badHopFor, fieldRules, firstFault, Reading, means, faulty, meaning, faultOr, read, recordsOf, wholeRecords}
 use Rattle.rules.specs.Plain.{needs, Outcome, taken, refused, ifRoom, change, apply, Applied, oneMore, next, applyAll, updated, WithinRules, Counted}
 
@@ -50,8 +50,8 @@ meaning-proper : (w : ℕ) (f : Fields) → badHopFor (f .action) (f .hop) ≡ f
 meaning-proper w f good =
     elim (by-test (eqb (f .action) announceAction)) [
       | inl e ↦
-          let in-range = or-none (ltb (f .hop) lowestHop) (ltb highestHop (f .hop)) (rw e at good) in
-          rw e (prefix-short w (f .size) (f .address), (ltb-false _ _ (in-range .0), ltb-false _ _ (in-range .1)))
+          let in-range : ltb highestHop (f .hop) ≡ false = rw e at good in
+          rw e (prefix-short w (f .size) (f .address), ltb-false _ _ in-range)
       | inr e ↦ rw e (prefix-short w (f .size) (f .address))
     ]
 

@@ -16,10 +16,9 @@ use Rattle.theory.specs.Bits.{Bits, addressOf, Each}
 use Rattle.theory.specs.Ledger.{Entry, _via_}
 use Rattle.theory.specs.Theorem.{Proper}
 use Rattle.theory.proofs.Address.{address-below, address-clear, prefix-of-address}
-use Rattle.rules.specs.Numbers.{width, recordBytes, hopBound, lowestHop, highestHop, announceAction, withdrawAction, badAction, badHop}
+use Rattle.rules.specs.Numbers.{width, recordBytes, hopBound, highestHop, announceAction, withdrawAction, badAction, badHop}
 use Rattle.rules.specs.Records.{number, bytesOf, Change, announces, withdraws, ProperChange, print, Fields, fieldsOf, Use, update, lookup, strayBits, takesWithdrawals, badHopFor, fieldRules, firstFault, means, meaning, faultOr, read, pieces, recordsOf, wholeRecords, printAll, announcements, printTable}
 use Rattle.rules.specs.Lookup.{scanOn, scanAll, scanned}
-use Rattle.rules.specs.Writing.{RealHop}
 
 -- Numbers and bytes.
 pub bytes-length : (k x : ℕ) → length (bytesOf k x) ≡ k
@@ -79,11 +78,10 @@ pub read-announcement : (u : Use) (k : ℕ) (p : Bits) (h : ℕ) → ProperChang
     → read u k (print k (announces p h)) ≡ means (announces p h)
 unfolding read
 read-announcement u k p h ok =
-    let low : ltb h lowestHop ≡ false = le-ltb h lowestHop (ok .1 .0) in
-    let high : ltb highestHop h ≡ false = le-ltb highestHop h (ok .1 .1) in
-    let two : h < 65536 = omega (arith, ok .1 .1) in
+    let high : ltb highestHop h ≡ false = le-ltb highestHop h (ok .1) in
+    let two : h < 65536 = omega (arith, ok .1) in
     let faultless : firstFault (fieldRules u (width k) (fieldsOf k (print k (announces p h)))) ≡ none =
-    rules-print k p announceAction h (ok .0) two u ∙ rw (low, high) in
+    rules-print k p announceAction h (ok .0) two u ∙ rw high in
     ap₂ faultOr faultless
     (ap (meaning (width k)) (fields-print k p announceAction h (ok .0) two) ∙ ap (λ t. announces t h) (prefix-of-address (width k) p (ok .0)))
 
@@ -140,18 +138,17 @@ pub table-length : (k : ℕ) (es : List Entry) → length (printTable k es) ≡ 
 table-length k es = printAll-length k (announcements es) ∙ ap (λ n. n * recordBytes k) (announcements-length es)
 
 -- A table's entries are announcements that records can carry, and what is written of it, looked up, is the list of its entries.
-pub announcements-proper : (k : ℕ) (es : List Entry) → Each (Proper hopBound (width k)) es → Each RealHop es
+pub announcements-proper : (k : ℕ) (es : List Entry) → Each (Proper hopBound (width k)) es
     → Each (ProperChange (width k)) (announcements es)
-announcements-proper k [] ok real = tt
-announcements-proper k (p via h ∷ es) ok real =
-    ((ok .0 .0, (real .0, let l = ok .0 .2 in omega arith)), announcements-proper k es (ok .1) (real .1))
+announcements-proper k [] ok = tt
+announcements-proper k (p via h ∷ es) ok = ((ok .0 .0, let l = ok .0 .2 in omega arith), announcements-proper k es (ok .1))
 
-pub scanned-table : (k : ℕ) (es : List Entry) → Each (Proper hopBound (width k)) es → Each RealHop es
+pub scanned-table : (k : ℕ) (es : List Entry) → Each (Proper hopBound (width k)) es
     → scanned k (printTable k es) ≡ record { refusal = none; place = 0; entries = es }
 unfolding scanned
-scanned-table k es ok real =
+scanned-table k es ok =
     rw (whole-print k (announcements es))
-    (ap (λ rs. scanAll (map (read lookup k) rs)) (records-print k (announcements es)) ∙ go es (announcements-proper k es ok real))
+    (ap (λ rs. scanAll (map (read lookup k) rs)) (records-print k (announcements es)) ∙ go es (announcements-proper k es ok))
   where
     go : (es : List Entry) → Each (ProperChange (width k)) (announcements es)
         → scanAll (map (read lookup k) (map (print k) (announcements es))) ≡ record { refusal = none; place = 0; entries = es }

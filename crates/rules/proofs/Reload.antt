@@ -16,7 +16,6 @@ use Rattle.theory.proofs.Hops.{by-test}
 use Rattle.rules.specs.Numbers.{width, hopBound}
 use Rattle.rules.specs.Records.{means, announcements, printTable}
 use Rattle.rules.specs.Plain.{needs, oneMore, applyAll, updated}
-use Rattle.rules.specs.Writing.{RealHop}
 use Rattle.rules.proofs.Records.{announcements-proper, whole-print, readings-print}
 use Rattle.rules.proofs.Slots.{needs-mono}
 
@@ -35,8 +34,8 @@ module _ (w slots : ℕ) where
       let fits-here : needs w M ≤ slots = omega (arith, needs-mono w (loadOnto M es) M (load-holds M es)) in
       rw (le-leb (needs w M) slots fits-here) (ap oneMore (applies M es fits))
 
-pub loads : (k slots : ℕ) (T : List Entry) → Each (Proper hopBound (width k)) T → Each RealHop T → needs (width k) (load T) ≤ slots
+pub loads : (k slots : ℕ) (T : List Entry) → Each (Proper hopBound (width k)) T → needs (width k) (load T) ≤ slots
     → updated k slots nothing (printTable k T) ≡ record { refusal = none; count = length T; ledger = load T }
 unfolding updated
-loads k slots T ok real fits =
-    rw (whole-print k (announcements T), readings-print k (announcements T) (announcements-proper k T ok real)) (applies (width k) slots nothing T fits)
+loads k slots T ok fits =
+    rw (whole-print k (announcements T), readings-print k (announcements T) (announcements-proper k T ok)) (applies (width k) slots nothing T fits)

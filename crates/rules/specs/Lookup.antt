@@ -9,7 +9,7 @@ use Rattle.theory.specs.Ledger.{Ledger, Entry, _via_, isHeld, longest, load}
 use Rattle.rules.specs.Numbers.{width, addresses, noRoute, badListLength, badAction}
 use Rattle.rules.specs.Records.{announces, withdraws, lookup, Reading, means, faulty, read, recordsOf, wholeRecords}
 
--- THE HOP OF AN ADDRESS, a number: longest match, and 0 where no held prefix begins it
+-- THE HOP OF AN ADDRESS, a number: longest match, and discard where no held prefix begins it
 unfoldable pub hopOf : ℕ → Ledger ℕ → ℕ → ℕ
 hopOf k L x = longest L noRoute (bitsOf (width k) x)
 

@@ -22,22 +22,23 @@ announceAction = 1
 abbrev pub withdrawAction : ℕ
 withdrawAction = 2
 
--- hops that may be announced, and the bound of the theorem: every hop is below it
-abbrev pub lowestHop : ℕ
-lowestHop = 1
+-- DISCARD is hop 0
+abbrev pub discard : ℕ
+discard = 0
 
+-- hops that may be announced, discard among them, and the bound of the theorem: every hop is below it
 abbrev pub highestHop : ℕ
 highestHop = 64
 
 abbrev pub MayAnnounce : ℕ → Type 0
-MayAnnounce h = (lowestHop ≤ h) × (h ≤ highestHop)
+MayAnnounce h = h ≤ highestHop
 
 abbrev pub hopBound : ℕ
 hopBound = highestHop + 1
 
--- no route: the answer of a lookup, and what is in force above the empty string
+-- an address without a route is discarded: the answer of a lookup there, and what is in force above the empty string
 abbrev pub noRoute : ℕ
-noRoute = 0
+noRoute = discard
 
 -- the most slots that may be lent
 abbrev pub mostSlots : ℕ
@@ -55,9 +56,12 @@ mostInput = 4096
 abbrev pub refusalMark : ℕ
 refusalMark = 255
 
--- the words of scratch that writing asks for: one u64 a slot
+-- the words of scratch that writing asks for: two u64 a slot, as a set can have one member more than a word has bits
+abbrev pub setWords : ℕ
+setWords = 2
+
 abbrev pub scratchWords : ℕ → ℕ
-scratchWords slots = slots
+scratchWords slots = setWords * slots
 
 -- The refusals, by the paper's numbers.
 abbrev pub badSlices : ℕ
@@ -87,9 +91,7 @@ notHeld = 8
 abbrev pub noSlots : ℕ
 noSlots = 9
 
-abbrev pub noDefault : ℕ
-noDefault = 10
-
+-- (10, for a ledger without a default route, has gone with item 2 of document 02)
 abbrev pub shortOutput : ℕ
 shortOutput = 11
 

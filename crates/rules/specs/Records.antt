@@ -7,7 +7,7 @@ use lib.Dec.{eqb, ltb}
 use lib.ListN.{length, take, drop, getD}
 use Rattle.theory.specs.Bits.{Bits, bitsOf, addressOf, some-of}
 use Rattle.theory.specs.Ledger.{Entry, _via_}
-use Rattle.rules.specs.Numbers.{width, recordBytes, announceAction, withdrawAction, lowestHop, highestHop, MayAnnounce, badPrefixLength, strayBit, badAction, badHop}
+use Rattle.rules.specs.Numbers.{width, recordBytes, announceAction, withdrawAction, highestHop, MayAnnounce, badPrefixLength, strayBit, badAction, badHop}
 
 -- numbers in bytes go high byte first
 abbrev pub number : List ℕ → ℕ
@@ -66,7 +66,7 @@ unfoldable pub strayBits : ℕ → ℕ → ℕ → Bool
 strayBits w size address = some-of (λ b. b) (drop size (bitsOf w address))
 
 abbrev pub badHopFor : ℕ → ℕ → Bool
-badHopFor action hop = cond (eqb action announceAction) (ltb hop lowestHop || ltb highestHop hop) (not (eqb hop 0))
+badHopFor action hop = cond (eqb action announceAction) (ltb highestHop hop) (not (eqb hop 0))
 
 abbrev pub fieldRules : Use → ℕ → Fields → List Rule
 fieldRules u w f =

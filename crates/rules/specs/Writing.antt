@@ -1,29 +1,19 @@
 -- Writing the smallest table, and what is promised of it in document 01's words.
 use mathlib.Core.Path.{_≡_}
-use mathlib.Core.Bool.{cond}
 use mathlib.Core.List.{List, []}
-use mathlib.Core.Option.{some}
 use Prim.Native.Nat.{ℕ, _≤_, _<_}
 use lib.ListN.{length}
 use Rattle.theory.specs.Bits.{Each}
-use Rattle.theory.specs.Hops.{only, least}
-use Rattle.theory.specs.Ledger.{Ledger, Entry, _via_, isHeld, load, held}
-use Rattle.theory.specs.Smallest.{setOf, table}
+use Rattle.theory.specs.Hops.{only}
+use Rattle.theory.specs.Ledger.{Ledger, Entry, load, held}
+use Rattle.theory.specs.Smallest.{setOf, entry, table}
 use Rattle.theory.specs.Theorem.{leaves, Sorted, Proper}
-use Rattle.rules.specs.Numbers.{width, addresses, hopBound, lowestHop, noRoute, noDefault}
+use Rattle.rules.specs.Numbers.{width, addresses, discard, hopBound, noRoute}
 use Rattle.rules.specs.Lookup.{hopOf}
 
--- THE SMALLEST TABLE of a ledger: each address has the set that holds its one hop
+-- THE SMALLEST TABLE of a ledger: each address has the set that holds its one hop, and discard is in force above the empty string
 unfoldable pub smallestTable : ℕ → Ledger ℕ → List Entry
-smallestTable k L = table hopBound (width k) (leaves only L noRoute) noRoute
-
--- what writing comes to before the output's room is looked at: the table, or refusal 10 where no default is held
-pub data Written : Type 0 where
-  writes : List Entry → Written
-  refuses : ℕ → Written
-
-abbrev pub written : ℕ → Ledger ℕ → Written
-written k L = cond (isHeld (L [])) (writes (smallestTable k L)) (refuses noDefault)
+smallestTable k L = table hopBound (width k) (leaves only L noRoute) discard
 
 -- two ledgers forward alike: the same hop for each address, all of them; a list of entries does as the ledger that it makes
 abbrev pub ForwardAlike : ℕ → Ledger ℕ → Ledger ℕ → Type 0
@@ -31,9 +21,6 @@ ForwardAlike k L M = (x : ℕ) → x < addresses k → hopOf k L x ≡ hopOf k M
 
 abbrev pub ForwardsAs : ℕ → Ledger ℕ → List Entry → Type 0
 ForwardsAs k L es = ForwardAlike k (load es) L
-
-abbrev pub RealHop : Entry → Type 0
-RealHop (p via h) = lowestHop ≤ h
 
 -- WHAT IS PROMISED of the table T that is written for the ledger L
 pub record SmallestFor (k : ℕ) (L : Ledger ℕ) (T : List Entry) : Type 0 where
@@ -46,8 +33,7 @@ pub record SmallestFor (k : ℕ) (L : Ledger ℕ) (T : List Entry) : Type 0 wher
   -- by address, then by length; entries proper, hops in the range of an announcement
   pub sorted : Sorted (width k) T
   pub proper : Each (Proper hopBound (width k)) T
-  pub real-hops : Each RealHop T
-  -- the empty string always has its entry, with the least hop of its set
-  pub default : load T [] ≡ some (least hopBound (setOf hopBound (width k) (leaves only L noRoute)))
+  -- the empty string gets an entry only if discard is not in its set, and then with the least hop of the set
+  pub top : load T [] ≡ entry hopBound (setOf hopBound (width k) (leaves only L noRoute)) discard
   -- loading it and writing again gives the same list
   pub again : smallestTable k (load T) ≡ T

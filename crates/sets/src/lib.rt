@@ -5,10 +5,15 @@ ghost use Prim.Native.Nat.{_≤_};
 ghost use Rattle.theory.specs.Hops.{only, some-below, least, common, join};
 ghost use Rattle.rules.specs.Numbers.{highestHop, MayAnnounce, hopBound};
 ghost use Rattle.sets.specs.Sets.{members, setIn, HasWords, Keeps};
-use numbers::LOWEST_HOP;
+use numbers::DISCARD;
+use numbers::SET_WORDS;
 
-// A set of hops.
+// The hop of a word's lowest bit: the first behind discard.
+const FIRST_HOP: u32 = DISCARD + 1;
+
+// A set of hops: whether discard is in it, and a word with a bit for each hop behind.
 pub struct HopSet {
+    discards: bool,
     word: u64,
 }
 
@@ -17,27 +22,34 @@ pub fn only(hop: u32) -> HopSet
     requires { ⌜ MayAnnounce hop ⌝ }
     ensures { λ r. ⌜ members r ≡ only hop ⌝ }
 {
+    if hop == DISCARD {
+        return HopSet {
+            discards: true,
+            word: 0,
+        };
+    }
     HopSet {
-        word: 1 << (hop - LOWEST_HOP),
+        discards: false,
+        word: 1 << (hop - FIRST_HOP),
     }
 }
 
-// Is a hop in the set? Hop 0, no route, never is.
+// Is a hop in the set?
 pub fn has(set: HopSet, hop: u32) -> bool
-    requires { ⌜ hop ≤ highestHop ⌝ }
+    requires { ⌜ MayAnnounce hop ⌝ }
     ensures { λ r. ⌜ r ≡ members set hop ⌝ }
 {
-    if hop < LOWEST_HOP {
-        return false;
+    if hop == DISCARD {
+        return set.discards;
     }
-    (set.word >> (hop - LOWEST_HOP)) % 2 == 1
+    (set.word >> (hop - FIRST_HOP)) % 2 == 1
 }
 
 // Have two sets no hop in common?
 pub fn apart(a: HopSet, b: HopSet) -> bool
     ensures { λ r. ⌜ r ≡ not (some-below hopBound (common (members a) (members b))) ⌝ }
 {
-    a.word & b.word == 0
+    !(a.discards & b.discards) & (a.word & b.word == 0)
 }
 
 // What two halves of the addresses can share: the hops that both allow or, where there is none, those of either.
@@ -46,28 +58,35 @@ pub fn join(a: HopSet, b: HopSet) -> HopSet
 {
     if apart(a, b) {
         return HopSet {
+            discards: a.discards | b.discards,
             word: a.word | b.word,
         };
     }
     HopSet {
+        discards: a.discards & b.discards,
         word: a.word & b.word,
     }
 }
 
-// The least hop of a set: as many hops are below it as the word has zeros below its lowest bit. The empty set's word has no bit, and the
-// count is then that of all hops, so that the answer is the number behind the last one.
+// The least hop of a set: discard or, where that is not in it, the hop of the word's lowest bit, below which there are as many hops as the
+// word has zeros. The empty set's word has no bit, and the count is then that of all hops, so that the answer is the number behind the last one.
 pub fn least(set: HopSet) -> u32
     ensures { λ r. ⌜ r ≡ least hopBound (members set) ⌝ }
 {
-    u64::trailing_zeros(set.word) + LOWEST_HOP
+    if set.discards {
+        return DISCARD;
+    }
+    u64::trailing_zeros(set.word) + FIRST_HOP
 }
 
-// A slot's set is kept in the scratch.
+// A slot's set is kept in the scratch: its word, and 1 or 0 beside it for discard.
 pub fn keep(scratch: &mut [u64], slot: usize, set: HopSet)
     requires { ⌜ HasWords (now scratch) slot ⌝ }
     ensures { λ _. ⌜ Keeps (now (scratch .entry)) slot set (now (scratch .exit)) ⌝ }
 {
-    scratch[slot] = set.word;
+    let at = SET_WORDS * slot;
+    scratch[at] = set.word;
+    scratch[at + 1] = set.discards as u64;
 }
 
 // The set that the scratch keeps for a slot.
@@ -75,7 +94,9 @@ pub fn kept(scratch: &[u64], slot: usize) -> HopSet
     requires { ⌜ HasWords (now scratch) slot ⌝ }
     ensures { λ r. ⌜ members r ≡ setIn (now (scratch .entry)) slot ⌝ }
 {
+    let at = SET_WORDS * slot;
     HopSet {
-        word: scratch[slot],
+        discards: scratch[at + 1] == 1,
+        word: scratch[at],
     }
 }

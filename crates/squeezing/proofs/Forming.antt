@@ -57,7 +57,7 @@ module _ (m : Memory) where
   pub form-none : {a : List ℕ} {p w d : ℕ} {r : Formed} → CanForm m a p d → n ≤ p → (members (r .set) ≡ only d) × (r .splits ≡ 0) → Forms m a p w d a r
   form-none {a} {p} {w} {d} can l is = record {
     set = is .0 ∙ sym (set-none m (can .whole) w p d l);
-    splits = is .1 ∙ sym (ap (splits hopBound w) (leaves-none m (can .whole) w p d l) ∙ splits-throughout hopBound w (only d) (only-allowed hopBound d (omega (arith, can .hop .1)) .member));
+    splits = is .1 ∙ sym (ap (splits hopBound w) (leaves-none m (can .whole) w p d l) ∙ splits-throughout hopBound w (only d) (only-allowed hopBound d (omega (arith, can .hop)) .member));
     stored = stored-none (can .whole) a w p d l;
     others = λ k h. refl;
     same-length = refl;
@@ -129,7 +129,7 @@ module _ (m : Memory) where
 
     pub allowed : (d : ℕ) → MayAnnounce d → AllAllowed hopBound w (leavesBelow w m (find (m .tree) q) d)
     allowed d real a e =
-        let high = longest-keeps (λ h. h ≤ highestHop) below-it d (λ s h e. walk-range m s w (find (m .tree) q) h e .1) (real .1) a in
+        let high = longest-keeps (λ h. h ≤ highestHop) below-it d (λ s h e. walk-range m s w (find (m .tree) q) h e) real a in
         only-allowed hopBound (longest below-it d a) (omega arith)
 
     pub splits-room : (d : ℕ) → MayAnnounce d → splits hopBound w (leavesBelow w m (find (m .tree) q) d) ≤ n

@@ -39,7 +39,7 @@ table-none : (m : Memory) → Whole m → (w p d c : ℕ) → MayAnnounce d → 
     → tableBelow w m p d c ≡ here (entryOf (setBelow w m p d) c)
 unfolding tableBelow entryOf
 table-none m whole w p d c real l =
-    throughout hopBound w (leavesBelow w m p d) d c (leaves-none m whole w p d l) (omega (arith, real .1))
+    throughout hopBound w (leavesBelow w m p d) d c (leaves-none m whole w p d l) (omega (arith, real))
     ∙ ap (λ x. here (entry hopBound x c)) (sym (set-none m whole w p d l))
 
 table-full : (m : Memory) (p d c : ℕ) → tableBelow 0 m p d c ≡ here (entryOf (setBelow 0 m p d) c)

@@ -8,7 +8,7 @@ use Rattle.theory.specs.Bits.{Bits, prefixOf}
 use Rattle.theory.specs.Hops.{Hops}
 use Rattle.theory.specs.Ledger.{Entry, _via_}
 use Rattle.theory.specs.Smallest.{entry, choose, here, table}
-use Rattle.rules.specs.Numbers.{width, recordBytes, hopBound, highestHop}
+use Rattle.rules.specs.Numbers.{width, recordBytes, hopBound, MayAnnounce}
 use Rattle.rules.specs.Records.{announces, print}
 use Rattle.memory.specs.declared.Path.{Path}
 use Rattle.memory.specs.Path.{pathBit, pathBits}
@@ -66,6 +66,6 @@ pub record Enters (k w : ℕ) (path : Path) (set : HopSet) (c at : ℕ) (output 
 pub record CanWrite (m : Memory) (scratch : List ℕ) (k p w d c at : ℕ) (path : Path) (output : List ℕ) : Type 0 where
   pub can : CanForm m scratch p d
   pub stored : Stored m scratch w p d
-  pub chosen : c ≤ highestHop
+  pub chosen : MayAnnounce c
   pub path-short : IsShort k w path
   pub room : Room k at (tableBelow w m p d c) output

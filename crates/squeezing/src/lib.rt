@@ -4,7 +4,7 @@ ghost use mathlib.Core.Path.{_≡_};
 ghost use Prim.Native.Nat.{_<_, _≤_};
 ghost use Rattle.theory.specs.Hops.{only};
 ghost use Rattle.theory.specs.Smallest.{split};
-ghost use Rattle.rules.specs.Numbers.{hopBound, highestHop, MayAnnounce};
+ghost use Rattle.rules.specs.Numbers.{hopBound, MayAnnounce};
 ghost use Rattle.memory.specs.Layout.{memoryOf};
 ghost use Rattle.sets.specs.Sets.{members, setIn, HasWords};
 ghost use Rattle.squeezing.specs.Stored.{CanForm, Forms};
@@ -111,7 +111,7 @@ fn enter(
     set: HopSet,
     chosen: u32,
 ) -> Standing
-    requires { ⌜ CanEnter bytes left path set chosen at (now output) × (chosen ≤ highestHop) ⌝ }
+    requires { ⌜ CanEnter bytes left path set chosen at (now output) × MayAnnounce chosen ⌝ }
     ensures { λ r. ⌜ Enters bytes left path set chosen at (now (output .entry)) (now (output .exit)) r ⌝ }
 {
     if sets::has(set, chosen) {

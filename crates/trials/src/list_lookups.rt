@@ -87,6 +87,29 @@ fn answered_by_default(list: &[u8; LIST]) {
     look_in_first(list, 40, 0xFFFFFFFF);
 }
 
+// Discards under a default route: they hide it, the later one for a prefix counts, and a longer route hides them.
+fn put_discards(list: &mut [u8; LIST]) {
+    put(list, 0, announce(0, 0, 64));
+    put(list, 1, announce(0x80000000, 1, 0));
+    put(list, 2, announce(0xC0000000, 2, 2));
+    put(list, 3, announce(0xC0000000, 2, 0));
+    put(list, 4, announce(0xFFFFFFFF, 32, 1));
+}
+
+fn discarded(list: &[u8; LIST]) {
+    say(
+        b"-- list lookup: 0.0.0.0/0 64, 128.0.0.0/1 0, 192.0.0.0/2 2, 192.0.0.0/2 0, 255.255.255.255/32 1\n",
+    );
+    look_in_first(list, 8, 0xFFFFFFFF);
+    look_in_first(list, 16, 0xFFFFFFFF);
+    look_in_first(list, 24, 0xFFFFFFFF);
+    look_in_first(list, 32, 0xFFFFFFFF);
+    look_in_first(list, 40, 0xFFFFFFFF);
+    look_in_first(list, 40, 0xFFFFFFFE);
+    look_in_first(list, 40, 0x80000000);
+    look_in_first(list, 40, 0x7FFFFFFF);
+}
+
 pub fn list_lookups() {
     refused();
     let mut list = [0u8; LIST];
@@ -95,4 +118,6 @@ pub fn list_lookups() {
     answered(&list);
     put_good(&mut list);
     answered_by_default(&list);
+    put_discards(&mut list);
+    discarded(&list);
 }

@@ -30,10 +30,12 @@ fn edges_of_rules(lo: &mut [u32; 65], hi: &mut [u32; 65], up: &mut [u32; 65], ho
         announce(0xFFFFFFFF, 31, 1),
         record(0, 0, 0, 1),
         record(0, 0, 255, 1),
-        announce(0, 0, 0),
+        announce(0, 0, 65),
         // 1 in the low byte of the hop, and in the high one.
         announce(0, 0, 257),
         announce(0, 0, 64),
+        LOOK,
+        announce(0, 0, 0),
         LOOK,
     ];
     run(lo, hi, up, hop, &changes);

@@ -118,6 +118,24 @@ fn single(lo: &mut [u32; 1], hi: &mut [u32; 1], up: &mut [u32; 1], hop: &mut [u3
     run(lo, hi, up, hop, &changes);
 }
 
+fn discards(lo: &mut [u32; 3], hi: &mut [u32; 3], up: &mut [u32; 3], hop: &mut [u32; 3]) {
+    say(b"-- 3 slots: a discard is held, needs its slots and hides the shorter route\n");
+    let changes = [
+        announce(0, 0, 1),
+        announce(0x40000000, 2, 0),
+        LOOK,
+        announce(0x80000000, 1, 2),
+        announce(0x40000000, 2, 3),
+        LOOK,
+        announce(0x40000000, 2, 0),
+        withdraw(0x40000000, 2),
+        withdraw(0x40000000, 2),
+        announce(0x80000000, 1, 2),
+        LOOK,
+    ];
+    run(lo, hi, up, hop, &changes);
+}
+
 fn in_33_slots() {
     let mut lo = [0u32; 33];
     let mut hi = [0u32; 33];
@@ -143,9 +161,18 @@ fn in_1_slot() {
     single(&mut lo, &mut hi, &mut up, &mut hop);
 }
 
+fn in_3_slots() {
+    let mut lo = [0u32; 3];
+    let mut hi = [0u32; 3];
+    let mut up = [0u32; 3];
+    let mut hop = [0u32; 3];
+    discards(&mut lo, &mut hi, &mut up, &mut hop);
+}
+
 pub fn room() {
     in_33_slots();
     in_turn();
     in_32_slots();
     in_1_slot();
+    in_3_slots();
 }

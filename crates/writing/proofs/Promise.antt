@@ -3,26 +3,26 @@
 use mathlib.Core.Path.{_≡_, refl, sym, ap, _∙_}
 use mathlib.Core.Logic.{_⊎_, inl, inr}
 use mathlib.Core.Bool.{true, false}
-use mathlib.Core.List.{List, [], _++_}
+use mathlib.Core.List.{List, _++_}
 use mathlib.Core.Option.{Option, none, some}
 use Prim.Native.Nat.{ℕ, _≤_, _<_}
 use native.Mathlib.Omega.{arith}
 use lib.Dec.{ltb}
 use lib.ListN.{length, drop, length-append, length-drop, length-replicate}
 use borrow.Author.Tests.{ltb-true, ltb-false, lt-ltb, le-ltb, eq-eqb, ne-eqb}
-use Rattle.theory.specs.Ledger.{Entry, isHeld}
+use Rattle.theory.specs.Ledger.{Entry}
 use Rattle.theory.proofs.Hops.{by-test, or-right}
 use Rattle.theory.proofs.Longest.{none-some}
-use Rattle.rules.specs.Numbers.{ipv4, width, badSlices, noLedger, noDefault, shortOutput}
+use Rattle.rules.specs.Numbers.{ipv4, width, scratchWords, badSlices, noLedger, shortOutput}
 use Rattle.rules.specs.Records.{printTable}
-use Rattle.rules.specs.Writing.{Written, writes, refuses, smallestTable, written}
+use Rattle.rules.specs.Writing.{smallestTable}
 use Rattle.rules.proofs.Records.{table-length}
 use Rattle.memory.specs.Layout.{Memory, slots, ledgerOf, holdsLedger, zeros}
 use Rattle.lent.specs.Lent.{badLent, lentFault}
 use Rattle.lent.proofs.Faults.{of-good, let-through, holds-of}
 use Rattle.writing.specs.declared.Wrote.{Wrote}
 use Rattle.writing.specs.declared.Wrote.the-variants.{Table, Refused}
-use Rattle.writing.specs.Promise.{Outcome, outcomeOf, bytesFor, intoOutput, writtenInto, writeFault, writeAfter, writeOf, Writes}
+use Rattle.writing.specs.Promise.{Outcome, outcomeOf, bytesFor, intoOutput, writeFault, writeAfter, writeOf, Writes}
 
 -- ONE ANSWER, and one scratch and one output beside it
 abbrev pub Same : Wrote → List ℕ → List ℕ → Wrote → List ℕ → List ℕ → Type 0
@@ -83,67 +83,46 @@ lengths-stay m scratch output scratch' output' r meets =
               )
         ]
 
-    into : (w : Written) → Kept (writtenInto w scratch output)
-    into (writes T) = table T
-    into (refuses x) = (refl, refl)
-
     after : (f : Option ℕ) → Kept (writeAfter f m scratch output)
-    after none = into (written ipv4 (ledgerOf (width ipv4) m))
+    after none = table (smallestTable ipv4 (ledgerOf (width ipv4) m))
     after (some x) = (refl, refl)
 
--- What is decided before the output's room is looked at, and of the scratch only its length: a refusal that changes nothing, or
--- the table.
-abbrev after-fault : Option ℕ → Written → Written
-after-fault none w = w
-after-fault (some x) w = refuses x
-
-abbrev decided : Memory → List ℕ → Written
-decided m scratch = after-fault (writeFault m scratch) (written ipv4 (ledgerOf (width ipv4) m))
-
-as-decided : (m : Memory) (s o : List ℕ) → writeOf m s o ≡ writtenInto (decided m s) s o
-unfolding writeOf
-as-decided m s o = go (writeFault m s)
-  where
-    go : (f : Option ℕ) → writeAfter f m s o ≡ writtenInto (after-fault f (written ipv4 (ledgerOf (width ipv4) m))) s o
-    go none = refl
-    go (some x) = refl
-
--- WHAT THE SCRATCH HOLDS NEVER MATTERS: only its length does. And but for refusals 1, 2 and 10, which give count 0 and change
+-- WHAT THE SCRATCH HOLDS NEVER MATTERS: only its length does. And but for refusals 1 and 2, which give count 0 and change
 -- nothing, what is left in it is the same too.
-same-length : (m : Memory) (a b : List ℕ) → length a ≡ length b → decided m a ≡ decided m b
+same-length : (m : Memory) (a b : List ℕ) → length a ≡ length b → writeFault m a ≡ writeFault m b
 unfolding writeFault
 same-length m a b e = rw e
 
 pub scratch-never-matters : (m : Memory) (output a b a' b' p q : List ℕ) (r s : Wrote)
     → length a ≡ length b → Writes m a output a' p r → Writes m b output b' q s
     → (r ≡ s) × (p ≡ q) × (((x : ℕ) → r ≡ Refused x 0 → ⊥) → a' ≡ b')
+unfolding writeOf
 scratch-never-matters m output a b a' b' p q r s e one other =
-    go (decided m a) (one .outcome ∙ as-decided m a output)
-    (other .outcome ∙ as-decided m b output ∙ ap (λ w. writtenInto w b output) (sym (same-length m a b e)))
+    go (writeFault m a) (one .outcome) (other .outcome ∙ ap (λ f. writeAfter f m b output) (sym (same-length m a b e)))
   where
     same-into : (T : List Entry) → intoOutput T a output ≡ intoOutput T b output
     same-into T = rw e
 
-    go : (w : Written) → outcomeOf r a' p ≡ writtenInto w a output → outcomeOf s b' q ≡ writtenInto w b output
+    go : (f : Option ℕ) → outcomeOf r a' p ≡ writeAfter f m a output → outcomeOf s b' q ≡ writeAfter f m b output
         → (r ≡ s) × (p ≡ q) × (((x : ℕ) → r ≡ Refused x 0 → ⊥) → a' ≡ b')
-    go (writes T) u v =
-        let same = same-outcome r s a' p b' q (u ∙ same-into T ∙ sym v) in
+    go none u v =
+        let same = same-outcome r s a' p b' q (u ∙ same-into (smallestTable ipv4 (ledgerOf (width ipv4) m)) ∙ sym v) in
         (same .0, same .2, λ other. same .1)
-    go (refuses x) u v =
+    go (some x) u v =
         let here = same-outcome r (Refused x 0) a' p a output u in
         let there = same-outcome s (Refused x 0) b' q b output v in
         (here .0 ∙ sym (there .0), here .2 ∙ sym (there .2), λ not-so. absurd (not-so x (here .0)))
 
 -- WHAT 1 REFUSES: the lent slices, or a scratch of another length; and what 1 and 2 let through
 module _ (m : Memory) (scratch : List ℕ) where
-  pub fault-slices : (badLent m ≡ true) ⊎ (length scratch ≡ slots (m .tree) → ⊥) → writeFault m scratch ≡ some badSlices
+  pub fault-slices : (badLent m ≡ true) ⊎ (length scratch ≡ scratchWords (slots (m .tree)) → ⊥) → writeFault m scratch ≡ some badSlices
   unfolding writeFault
   fault-slices (inl bad) = rw bad
-  fault-slices (inr other) = rw (ne-eqb (length scratch) (slots (m .tree)) other, or-right (badLent m) true refl)
+  fault-slices (inr other) = rw (ne-eqb (length scratch) (scratchWords (slots (m .tree))) other, or-right (badLent m) true refl)
 
-  pub fault-none : lentFault m ≡ none → length scratch ≡ slots (m .tree) → writeFault m scratch ≡ none
+  pub fault-none : lentFault m ≡ none → length scratch ≡ scratchWords (slots (m .tree)) → writeFault m scratch ≡ none
   unfolding writeFault
-  fault-none fine same = rw (of-good m (let-through m fine), eq-eqb (length scratch) (slots (m .tree)) same, holds-of m fine)
+  fault-none fine same = rw (of-good m (let-through m fine), eq-eqb (length scratch) (scratchWords (slots (m .tree))) same, holds-of m fine)
 
 -- THE REFUSALS AND THE TABLE, in plain words
 module _ (m : Memory) (scratch output scratch' output' : List ℕ) (r : Wrote) (meets : Writes m scratch output scratch' output' r) where
@@ -156,43 +135,38 @@ module _ (m : Memory) (scratch output scratch' output' : List ℕ) (r : Wrote) (
   refused-so x e = same-outcome r (Refused x 0) scratch' output' scratch output (meets .outcome ∙ ap (λ f. writeAfter f m scratch output) e)
 
   -- 1: the lent slices, or a scratch of another length
-  pub refused-1 : (badLent m ≡ true) ⊎ (length scratch ≡ slots (m .tree) → ⊥) → Ends (Refused badSlices 0) scratch output
+  pub refused-1 : (badLent m ≡ true) ⊎ (length scratch ≡ scratchWords (slots (m .tree)) → ⊥) → Ends (Refused badSlices 0) scratch output
   refused-1 bad = refused-so badSlices (fault-slices m scratch bad)
 
   -- 2: slices and scratch of one length, and no ledger
-  pub refused-2 : badLent m ≡ false → length scratch ≡ slots (m .tree) → holdsLedger (m .tree) ≡ false → Ends (Refused noLedger 0) scratch output
+  pub refused-2 : badLent m ≡ false → length scratch ≡ scratchWords (slots (m .tree)) → holdsLedger (m .tree) ≡ false → Ends (Refused noLedger 0) scratch output
   unfolding writeFault
-  refused-2 good same empty = refused-so noLedger (rw (good, eq-eqb (length scratch) (slots (m .tree)) same, empty))
+  refused-2 good same empty = refused-so noLedger (rw (good, eq-eqb (length scratch) (scratchWords (slots (m .tree))) same, empty))
 
   abbrev T : List Entry
   T = smallestTable ipv4 (ledgerOf (width ipv4) m)
 
   module _ (fine : writeFault m scratch ≡ none) where
-    goes-on : writeOf m scratch output ≡ writtenInto (written ipv4 (ledgerOf (width ipv4) m)) scratch output
+    goes-on : writeOf m scratch output ≡ intoOutput T scratch output
     unfolding writeOf
     goes-on = ap (λ f. writeAfter f m scratch output) fine
 
-    -- 10: no default route is held
-    pub refused-10 : isHeld (ledgerOf (width ipv4) m []) ≡ false → Ends (Refused noDefault 0) scratch output
-    refused-10 none-held = same-outcome r (Refused noDefault 0) scratch' output' scratch output (meets .outcome ∙ goes-on ∙ rw none-held)
-
     -- THE TABLE: its bytes, every byte behind them as it was, and the scratch zero
-    pub table-of : (U : List Entry) → written ipv4 (ledgerOf (width ipv4) m) ≡ writes U → bytesFor U ≤ length output
+    pub table-of : (U : List Entry) → T ≡ U → bytesFor U ≤ length output
         → Ends (Table (length U)) (zeros (length scratch)) (printTable ipv4 U ++ drop (bytesFor U) output)
     table-of U is fits =
         same-outcome r (Table (length U)) scratch' output' (zeros (length scratch)) (printTable ipv4 U ++ drop (bytesFor U) output)
         (meets .outcome ∙ goes-on ∙ rw (is, le-ltb (length output) (bytesFor U) fits))
 
-    module _ (default : isHeld (ledgerOf (width ipv4) m []) ≡ true) where
-      pub table-written : bytesFor T ≤ length output
-          → Ends (Table (length T)) (zeros (length scratch)) (printTable ipv4 T ++ drop (bytesFor T) output)
-      table-written = table-of T (rw default)
+    pub table-written : bytesFor T ≤ length output
+        → Ends (Table (length T)) (zeros (length scratch)) (printTable ipv4 T ++ drop (bytesFor T) output)
+    table-written = table-of T refl
 
-      -- 11: the output is too short; the count is the one that is needed, the output is as it was, and the scratch is zero
-      pub refused-11 : length output < bytesFor T → Ends (Refused shortOutput (length T)) (zeros (length scratch)) output
-      refused-11 short =
-          same-outcome r (Refused shortOutput (length T)) scratch' output' (zeros (length scratch)) output
-          (meets .outcome ∙ goes-on ∙ rw (default, lt-ltb (length output) (bytesFor T) short))
+    -- 11: the output is too short; the count is the one that is needed, the output is as it was, and the scratch is zero
+    pub refused-11 : length output < bytesFor T → Ends (Refused shortOutput (length T)) (zeros (length scratch)) output
+    refused-11 short =
+        same-outcome r (Refused shortOutput (length T)) scratch' output' (zeros (length scratch)) output
+        (meets .outcome ∙ goes-on ∙ rw (lt-ltb (length output) (bytesFor T) short))
 
   -- and only so is a table answered
   pub only-so : (c : ℕ) → r ≡ Table c → Ends (Table (length T)) (zeros (length scratch)) (printTable ipv4 T ++ drop (bytesFor T) output)
@@ -205,11 +179,7 @@ module _ (m : Memory) (scratch output scratch' output' : List ℕ) (r : Wrote) (
           → Ends (Table (length T)) (zeros (length scratch)) (printTable ipv4 T ++ drop (bytesFor T) output)
       go (some x) e = other (refused-so x e .0)
       go none e =
-          elim (by-test (isHeld (ledgerOf (width ipv4) m []))) [
-            | inr none-held ↦ other (refused-10 e none-held .0)
-            | inl default ↦
-                elim (by-test (ltb (length output) (bytesFor T))) [
-                  | inl short ↦ other (refused-11 e default (ltb-true (length output) (bytesFor T) short) .0)
-                  | inr fits ↦ table-written e default (ltb-false (length output) (bytesFor T) fits)
-                ]
+          elim (by-test (ltb (length output) (bytesFor T))) [
+            | inl short ↦ other (refused-11 e (ltb-true (length output) (bytesFor T) short) .0)
+            | inr fits ↦ table-written e (ltb-false (length output) (bytesFor T) fits)
           ]

@@ -10,7 +10,7 @@ use lib.ListN.{length, drop}
 use Rattle.theory.specs.Ledger.{Entry}
 use Rattle.rules.specs.Numbers.{ipv4, width, recordBytes, scratchWords, badSlices, noLedger, shortOutput}
 use Rattle.rules.specs.Records.{_refusedBy_, firstFault, printTable}
-use Rattle.rules.specs.Writing.{Written, writes, refuses, written}
+use Rattle.rules.specs.Writing.{smallestTable}
 use Rattle.memory.specs.Layout.{Memory, slots, ledgerOf, holdsLedger, zeros}
 use Rattle.lent.specs.Lent.{badLent}
 use Rattle.writing.specs.declared.Wrote.{Wrote}
@@ -28,7 +28,7 @@ abbrev pub outcomeOf : Wrote → List ℕ → List ℕ → Outcome
 outcomeOf (Table count) scratch output = record { refusal = none; count = count; scratch = scratch; output = output }
 outcomeOf (Refused number count) scratch output = record { refusal = some number; count = count; scratch = scratch; output = output }
 
--- 1, 2 and 10: count 0, and nothing changed
+-- 1 and 2: count 0, and nothing changed
 abbrev pub unchanged : ℕ → List ℕ → List ℕ → Outcome
 unchanged x scratch output = record { refusal = some x; count = 0; scratch = scratch; output = output }
 
@@ -43,10 +43,6 @@ intoOutput T scratch output =
     (record { refusal = some shortOutput; count = length T; scratch = zeros (length scratch); output = output })
     (record { refusal = none; count = length T; scratch = zeros (length scratch); output = printTable ipv4 T ++ drop (bytesFor T) output })
 
-abbrev pub writtenInto : Written → List ℕ → List ℕ → Outcome
-writtenInto (writes T) scratch output = intoOutput T scratch output
-writtenInto (refuses x) scratch output = unchanged x scratch output
-
 -- THE WHOLE CALL'S RULES: 1 asks for scratch of its length, too
 unfoldable pub writeFault : Memory → List ℕ → Option ℕ
 writeFault m scratch =
@@ -57,7 +53,7 @@ writeFault m scratch =
 
 -- WRITING, as a function of what is lent
 abbrev pub writeAfter : Option ℕ → Memory → List ℕ → List ℕ → Outcome
-writeAfter none m scratch output = writtenInto (written ipv4 (ledgerOf (width ipv4) m)) scratch output
+writeAfter none m scratch output = intoOutput (smallestTable ipv4 (ledgerOf (width ipv4) m)) scratch output
 writeAfter (some x) m scratch output = unchanged x scratch output
 
 unfoldable pub writeOf : Memory → List ℕ → List ℕ → Outcome

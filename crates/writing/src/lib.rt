@@ -1,17 +1,22 @@
 // The call that writes the smallest table of the ledger in lent memory. Every slice is taken; the call checks for itself.
 ghost use mathlib.Core.Path.{_≡_};
+ghost use mathlib.Core.Bool.{cond};
 ghost use lib.ListN.{length};
+ghost use Rattle.rules.specs.Numbers.{discard};
 ghost use Rattle.memory.specs.Layout.{memoryOf, zeros};
+ghost use Rattle.sets.specs.Sets.{members};
 ghost use Rattle.writing.specs.Promise.{Writes};
 ghost use Rattle.writing.specs.Steps.{Begun};
 use memory::Path;
 use numbers::ADDRESS;
 use numbers::BAD_SLICES;
-use numbers::NO_DEFAULT;
+use numbers::DISCARD;
 use numbers::NO_ROUTE;
 use numbers::RECORD;
+use numbers::SET_WORDS;
 use numbers::SHORT_OUTPUT;
 use numbers::WIDTH;
+use sets::HopSet;
 
 // The table was written, so many records; or the call was refused by its number, with the count that document 01 gives beside it.
 pub enum Wrote {
@@ -30,7 +35,17 @@ fn clear(scratch: &mut [u64])
     }
 }
 
-// Writing, once the checks have let it through: `default` is the hop of the prefix of length 0.
+// How many entries the empty string gets, with this set: none if discard is in it, for that is in force above.
+fn top_entries(set: HopSet) -> usize
+    ensures { λ r. ⌜ r ≡ cond (members set discard) 0 1 ⌝ }
+{
+    if sets::has(set, DISCARD) {
+        return 0;
+    }
+    1
+}
+
+// Writing, once the checks have let it through.
 fn squeeze(
     lo: &[u32],
     hi: &[u32],
@@ -38,13 +53,12 @@ fn squeeze(
     hop: &[u32],
     scratch: &mut [u64],
     output: &mut [u8],
-    default: u32,
 ) -> Wrote
-    requires { ⌜ Begun (memoryOf (now lo) (now hi) (now up) (now hop)) (now scratch) default ⌝ }
+    requires { ⌜ Begun (memoryOf (now lo) (now hi) (now up) (now hop)) (now scratch) ⌝ }
     ensures { λ r. ⌜ Writes (memoryOf (now (lo .entry)) (now (hi .entry)) (now (up .entry)) (now (hop .entry))) (now (scratch .entry)) (now (output .entry)) (now (scratch .exit)) (now (output .exit)) r ⌝ }
 {
-    let formed = squeezing::form_sets(lo, hi, up, hop, scratch, 0, WIDTH, default);
-    let count = formed.splits + 1;
+    let formed = squeezing::form_sets(lo, hi, up, hop, scratch, 0, WIDTH, NO_ROUTE);
+    let count = top_entries(formed.set) + formed.splits;
     if output.len() / RECORD < count {
         clear(scratch);
         return Wrote::Refused {
@@ -62,8 +76,8 @@ fn squeeze(
         output,
         0,
         WIDTH,
-        default,
         NO_ROUTE,
+        DISCARD,
         top,
         ADDRESS,
         0,
@@ -72,7 +86,7 @@ fn squeeze(
     Wrote::Table { count }
 }
 
-// The smallest table that forwards every address as the ledger does, as records into the output; one word of scratch a slot.
+// The smallest table that forwards every address as the ledger does, as records into the output; two words of scratch a slot.
 pub fn write(
     lo: &[u32],
     hi: &[u32],
@@ -83,7 +97,7 @@ pub fn write(
 ) -> Wrote
     ensures { λ r. ⌜ Writes (memoryOf (now (lo .entry)) (now (hi .entry)) (now (up .entry)) (now (hop .entry))) (now (scratch .entry)) (now (output .entry)) (now (scratch .exit)) (now (output .exit)) r ⌝ }
 {
-    if scratch.len() != up.len() {
+    if scratch.len() != SET_WORDS * up.len() {
         return Wrote::Refused {
             number: BAD_SLICES,
             count: 0,
@@ -96,12 +110,5 @@ pub fn write(
             count: 0,
         };
     }
-    if !memory::holds(hop[0]) {
-        return Wrote::Refused {
-            number: NO_DEFAULT,
-            count: 0,
-        };
-    }
-    let default = memory::hop_or(hop[0], NO_ROUTE);
-    squeeze(lo, hi, up, hop, scratch, output, default)
+    squeeze(lo, hi, up, hop, scratch, output)
 }

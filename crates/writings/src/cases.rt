@@ -82,7 +82,13 @@ fn j_to_m() {
         b"case L",
         1,
         ROOM,
-        &[announce(0, 0, 64), announce(0, 0, 65), WRITE],
+        &[
+            announce(0, 0, 64),
+            announce(0, 0, 65),
+            WRITE,
+            announce(0, 0, 0),
+            WRITE,
+        ],
     );
     trial(
         b"case M",

@@ -4,6 +4,7 @@ use crate::trial::WRITE;
 use crate::trial::run;
 use crate::written::Lent;
 use crate::written::ROOM;
+use crate::written::scratch_for;
 use crate::written::write;
 use telling::change::LOOK;
 use telling::change::announce;
@@ -25,8 +26,8 @@ fn lent(words: usize) -> Lent {
 // The ledger is looked at and written; then a route is announced, where there is room, and it is written again.
 fn try_memory(lo: &mut [u32], hi: &mut [u32], up: &mut [u32], hop: &mut [u32]) {
     let changes = [LOOK, WRITE, announce(0x80000000, 1, 11), WRITE];
-    let slots = up.len();
-    run(lo, hi, up, hop, &changes, lent(slots));
+    let words = scratch_for(up.len());
+    run(lo, hi, up, hop, &changes, lent(words));
 }
 
 fn four(title: &[u8], lo: &mut [u32; 4], hi: &mut [u32; 4], up: &mut [u32; 4], hop: &mut [u32; 4]) {
@@ -78,7 +79,7 @@ fn child_of_two() {
     );
 }
 
-// Slots 1 to 3 are 0*, 1* and 00*, and what is stored there stands for no hop: hop 65, hop 0, and the highest word.
+// Slots 1 to 3 are 0*, 1* and 00*. What is stored there stands for none (it would be hop 65), for a discard, and for none.
 fn stored(title: &[u8], default: u32) {
     let mut lo = [1u32, 3, 0, 0];
     let mut hi = [2u32, 0, 0, 0];
@@ -96,8 +97,9 @@ fn filled(mark: u32) {
     say_number(mark as u64);
     say(b"\n");
     // Rule 1 comes before rule 2.
-    write(&cells, &cells, &up, &cells, lent(13));
+    write(&cells, &cells, &up, &cells, lent(25));
     write(&cells, &cells, &up, &cells, lent(12));
+    write(&cells, &cells, &up, &cells, lent(24));
 }
 
 // Small words, likely to be links, marks and hops.
@@ -128,11 +130,17 @@ pub fn memories() {
         b"the default route's hop is stored as 66, which is none",
         66,
     );
-    stored(b"the default route's hop is stored as 1, which is none", 1);
+    stored(
+        b"the default route's hop is stored as 1, which is discard",
+        1,
+    );
     scattered(1);
-    // Seeds with links that count: five routes, of which two to five are written.
+    // Seeds with links that count: five routes, of which two to five are written; six with a discard that is written; and four with
+    // a discard and no default route.
     scattered(265776);
     scattered(235148);
     scattered(215029);
     scattered(176853);
+    scattered(265071);
+    scattered(1348941);
 }

@@ -11,7 +11,8 @@ use telling::words::next_word;
 enum Rule {
     // Twice 20 changes and a writing.
     Random,
-    // A default route and 64 routes of 6 bits, each with a hop of its own.
+    // A default route and 64 routes of 6 bits, each with a hop of its own, and a writing; then a discard of 7 bits, so that all 65
+    // hops are in one set, and a writing.
     EveryHop,
     // 0.0.0.0 with every length, and three hops in turn.
     EveryLength,
@@ -26,13 +27,13 @@ fn size_from(word: u32) -> u8 {
     size as u8
 }
 
-// 1 to 4, and 61 to 64.
+// 0 to 4, and 61 to 64.
 fn hop_from(word: u32) -> u16 {
-    let step = word % 8;
-    if step < 4 {
-        return (step + 1) as u16;
+    let step = word % 9;
+    if step < 5 {
+        return step as u16;
     }
-    (step + 57) as u16
+    (step + 56) as u16
 }
 
 // The word's first bits; with 32 bits, one of the five addresses that are looked up after each writing.
@@ -69,6 +70,9 @@ fn hop_change(place: usize) -> u64 {
     }
     if place <= 64 {
         return announce((place - 1) as u32 * 0x04000000, 6, place as u16);
+    }
+    if place == 66 {
+        return announce(0xFC000000, 7, 0);
     }
     WRITE
 }
@@ -109,9 +113,9 @@ fn random(seed: u32, slots: usize) {
 }
 
 fn every_hop() {
-    let mut changes = [0u64; 66];
+    let mut changes = [0u64; 68];
     fill(&mut changes, Rule::EveryHop, 0);
-    trial(b"every hop", 127, MOST_ROOM, &changes);
+    trial(b"every hop", 128, MOST_ROOM, &changes);
 }
 
 fn every_length() {
@@ -123,11 +127,11 @@ fn every_length() {
 pub fn runs() {
     every_hop();
     every_length();
-    // Seeds with much to join: of some 13 routes and then some 22, about two in three are written. The last has no default route at
-    // its first writing.
-    random(301, 200);
-    random(222, 120);
-    random(21, 80);
-    random(72, 50);
-    random(5, 50);
+    // Seeds with much to join: of some 13 routes and then some 22, about two in three are written, hop 0 each time among them. A
+    // default route is held at both writings, at the second, at neither, at the first, and at the second.
+    random(208, 200);
+    random(1950, 120);
+    random(1574, 80);
+    random(197, 50);
+    random(2433, 50);
 }

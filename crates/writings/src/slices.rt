@@ -10,11 +10,15 @@ use crate::written::Lent;
 use crate::written::ROOM;
 use crate::written::tell;
 use numbers::MOST_SLOTS;
+use numbers::SET_WORDS;
 use telling::change::announce;
 use telling::text::say;
 use telling::text::say_count;
 use telling::text::say_number;
 use telling::tried::run;
+
+// The scratch that goes with the most slots.
+const MOST_SCRATCH: usize = SET_WORDS * MOST_SLOTS;
 
 fn say_lengths(lengths: Lengths, lent: Lent) {
     say(b"-- lo ");
@@ -50,15 +54,16 @@ fn odd(lengths: Lengths, words: usize, fill: u64) {
 }
 
 fn one_shorter(lo: usize, hi: usize, up: usize, hop: usize) {
-    odd(Lengths { lo, hi, up, hop }, 6, ONES);
+    odd(Lengths { lo, hi, up, hop }, 12, ONES);
 }
 
 // What the scratch holds on entry never matters; how long it is does.
 fn scratches() {
+    odd(same_lengths(6), 12, ONES);
+    odd(same_lengths(6), 12, 0);
+    odd(same_lengths(6), 11, ONES);
+    odd(same_lengths(6), 13, ONES);
     odd(same_lengths(6), 6, ONES);
-    odd(same_lengths(6), 6, 0);
-    odd(same_lengths(6), 5, ONES);
-    odd(same_lengths(6), 7, ONES);
     odd(same_lengths(6), 0, ONES);
     odd(same_lengths(0), 0, ONES);
 }
@@ -70,16 +75,17 @@ fn slots() {
     one_shorter(6, 6, 6, 5);
 }
 
-// Rule 10 comes before rule 11.
+// A table of no records needs no output.
 fn outputs() {
-    let no_default = [announce(0x80000000, 1, 1), WRITE];
-    trial(b"no default route", 2, ROOM, &no_default);
-    trial(b"no default route", 2, 0, &no_default);
+    trial(b"no record", 1, 0, &[WRITE]);
     let one = [announce(0, 0, 1), WRITE];
     trial(b"one record", 1, 0, &one);
     trial(b"one record", 1, 7, &one);
     trial(b"one record", 1, 8, &one);
     trial(b"one record", 1, 15, &one);
+    let no_default = [announce(0x80000000, 1, 1), WRITE];
+    trial(b"one record, no default route", 2, 7, &no_default);
+    trial(b"one record, no default route", 2, 8, &no_default);
 }
 
 fn most_slots() {
@@ -87,7 +93,7 @@ fn most_slots() {
     let mut hi = [0u32; MOST_SLOTS];
     let mut up = [0u32; MOST_SLOTS];
     let mut hop = [0u32; MOST_SLOTS];
-    let mut scratch = [ONES; MOST_SLOTS];
+    let mut scratch = [ONES; MOST_SCRATCH];
     let mut output = [BLANK; ROOM];
     let changes = [announce(0, 0, 1), announce(0xFFFFFFFF, 32, 2)];
     say(b"-- 65536 slots\n");
@@ -99,7 +105,7 @@ fn most_slots() {
 fn too_many_slots() {
     let cells = [0u32; MOST_SLOTS + 1];
     let mut hop = [0u32; MOST_SLOTS + 1];
-    let mut scratch = [ONES; MOST_SLOTS + 1];
+    let mut scratch = [ONES; MOST_SCRATCH + SET_WORDS];
     let mut output = [BLANK; ROOM];
     hop[0] = 2;
     say(b"-- 65537 slots\n");

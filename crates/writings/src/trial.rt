@@ -2,6 +2,7 @@
 use crate::written::Lent;
 use crate::written::SLOTS;
 use crate::written::least;
+use crate::written::scratch_for;
 use crate::written::write;
 use telling::text::say;
 use telling::text::say_count;
@@ -86,7 +87,7 @@ pub fn trial(title: &[u8], slots: usize, room: usize, changes: &[u64]) {
     lend(
         same_lengths(slots),
         Lent {
-            words: slots,
+            words: scratch_for(slots),
             fill: ONES,
             room,
         },

@@ -5,6 +5,7 @@ ghost use lib.ListN.{length};
 ghost use Rattle.io.specs.Counts.{Counts};
 use libc::STDOUT_FILENO;
 use numbers::RECORD;
+use numbers::SET_WORDS;
 use telling::change::record_at;
 use telling::change::say_change;
 use telling::text::say;
@@ -15,8 +16,10 @@ use telling::tried::look_around;
 use telling::tried::look_around_list;
 use writing::Wrote;
 
-// Most trials lend at most so many slots.
+// Most trials lend at most so many slots, and the words of scratch for them.
 pub const SLOTS: usize = 256;
+
+const SCRATCH: usize = SET_WORDS * SLOTS;
 
 // The bytes of output that a trial lends: at most so many, and so many where they are to be more than enough for a few records.
 pub const MOST_ROOM: usize = 512;
@@ -47,6 +50,23 @@ fn say_wrote(answer: Wrote) {
             say(b", count ");
             say_count(count);
         }
+    }
+}
+
+// The words of scratch that go with so many slots.
+pub fn scratch_for(slots: usize) -> usize {
+    let most = least(slots, SLOTS);
+    most * SET_WORDS
+}
+
+// Was a table written, be it one of no records?
+fn is_table(answer: Wrote) -> bool {
+    match answer {
+        Wrote::Table { count: _ } => true,
+        Wrote::Refused {
+            number: _,
+            count: _,
+        } => false,
     }
 }
 
@@ -158,7 +178,7 @@ fn write_again(table: &[u8]) {
     let mut hi = [0u32; SLOTS];
     let mut up = [0u32; SLOTS];
     let mut hop = [0u32; SLOTS];
-    let mut scratch = [0u64; SLOTS];
+    let mut scratch = [0u64; SCRATCH];
     let mut output = [BLANK; MOST_ROOM];
     say(b"    loaded: ");
     apply_list(&mut lo, &mut hi, &mut up, &mut hop, table);
@@ -183,7 +203,7 @@ pub fn tell(
     say_wrote(answer);
     let end = table_bytes(answer, output);
     say_left(scratch, fill, &output[end..]);
-    if end != 0 {
+    if is_table(answer) {
         let table = &output[..end];
         say_table(table);
         look_around(lo, hi, up, hop);
@@ -202,9 +222,9 @@ pub struct Lent {
 // The ledger is written, and what is lent beside it lasts for that call.
 pub fn write(lo: &[u32], hi: &[u32], up: &[u32], hop: &[u32], lent: Lent) {
     let fill = lent.fill;
-    let words = least(lent.words, SLOTS);
+    let words = least(lent.words, SCRATCH);
     let room = least(lent.room, MOST_ROOM);
-    let mut scratch = [fill; SLOTS];
+    let mut scratch = [fill; SCRATCH];
     let mut output = [BLANK; MOST_ROOM];
     tell(
         lo,

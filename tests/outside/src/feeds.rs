@@ -1,6 +1,6 @@
 //! Random feeds of valid records.
 
-use crate::plain::{Prefix, HIGHEST_HOP, WIDTH};
+use crate::plain::{Prefix, DISCARD, HIGHEST_HOP, WIDTH};
 use chance::Chance;
 use doors::records::Fields;
 
@@ -95,8 +95,13 @@ fn any_block(spread: u8, chance: &mut Chance) -> Prefix {
     Prefix::of(chance.bits() as u32, length)
 }
 
+/// One hop is as likely as another, but for discard, which comes more often.
 fn any_hop(chance: &mut Chance) -> u16 {
-    1 + chance.below(u64::from(HIGHEST_HOP)) as u16
+    if chance.happens(0.1) {
+        DISCARD
+    } else {
+        1 + chance.below(u64::from(HIGHEST_HOP)) as u16
+    }
 }
 
 pub fn bytes(records: &[Fields]) -> Vec<u8> {

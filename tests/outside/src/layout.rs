@@ -60,7 +60,7 @@ fn child(memory: &Memory, slot: usize, bit: bool) -> Option<usize> {
 /// Stored is the hop and 1; a number that stands for no hop that may be announced is none.
 fn stored_hop(stored: u32) -> Option<u16> {
     let hop = u16::try_from(stored.checked_sub(1)?).ok()?;
-    (1..=HIGHEST_HOP).contains(&hop).then_some(hop)
+    (hop <= HIGHEST_HOP).then_some(hop)
 }
 
 /// What is not tidy in a memory that holds a ledger, the first thing found. Our calls keep memory from zeros tidy.

@@ -4,7 +4,7 @@
 
 use crate::feeds::bytes;
 use crate::layout;
-use crate::plain::HIGHEST_HOP;
+use crate::plain::{Prefix, DISCARD, HIGHEST_HOP};
 use doors::records::{Fields, RECORD};
 use doors::{Counted, Found, Memory};
 
@@ -28,6 +28,8 @@ pub enum Fault {
     Lookup,
     /// A lookup in the ledger changes the memory.
     Stirs,
+    /// A lookup in the ledger and writing take a held discard for no route, so that it does not hide the shorter one.
+    HidesNothing,
     /// A lookup in a list always answers 1.
     ListLookup,
     /// A lookup in a list gives the place behind the first bad record.
@@ -38,6 +40,8 @@ pub enum Fault {
     Drop,
     /// A redundant record is added.
     Extra,
+    /// The empty string is always given an entry, also where discard is in its set.
+    TopEntry,
     /// Two records are swapped.
     Order,
     /// A byte behind the table is changed.
@@ -66,11 +70,13 @@ impl Fault {
             Fault::Head => "head",
             Fault::Lookup => "lookup",
             Fault::Stirs => "stirs",
+            Fault::HidesNothing => "hides-nothing",
             Fault::ListLookup => "list-lookup",
             Fault::Place => "place",
             Fault::Hop => "hop",
             Fault::Drop => "drop",
             Fault::Extra => "extra",
+            Fault::TopEntry => "top-entry",
             Fault::Order => "order",
             Fault::BytesBehind => "bytes-behind",
             Fault::Output => "output",
@@ -102,6 +108,7 @@ impl Ours {
         let answer = memory.lookup(address);
         match self.fault {
             Some(Fault::Lookup) => ALWAYS_ONE,
+            Some(Fault::HidesNothing) => without_discards(memory).lookup(address),
             Some(Fault::Stirs) => {
                 memory.hi.last_mut().into_iter().for_each(|element| *element ^= 1);
                 answer
@@ -115,7 +122,10 @@ impl Ours {
             return memory.write(scratch, output);
         };
         let before = output.to_vec();
-        let answer = memory.write(scratch, output);
+        let answer = match fault {
+            Fault::HidesNothing => without_discards(memory).write(scratch, output),
+            _ => memory.write(scratch, output),
+        };
         match (fault, answer.number) {
             (Fault::Scratch, 0 | 11) => scratch.last_mut().into_iter().for_each(|word| *word = 1),
             (Fault::Copy, 0) => return copy_ledger(memory, &before, output),
@@ -165,18 +175,24 @@ fn damage_update(fault: Fault, before: &Memory, memory: &mut Memory, list: &[u8]
     answer
 }
 
-/// Damage to an output and the count that goes with it. A table that was written has at least one record.
+/// Damage to an output and the count that goes with it. A table without records, or an output without room for one
+/// more, is left as it is by faults that need them.
 fn damage_written(fault: Fault, before: &[u8], output: &mut [u8], answer: Counted) -> Counted {
     let end = if answer.number == 0 { RECORD * answer.count as usize } else { 0 };
     let counted = |count| Counted { count, ..answer };
     match (fault, answer.number) {
-        (Fault::Hop, 0) => output[end - 1] = output[end - 1] % HIGHEST_HOP as u8 + 1,
-        (Fault::Drop, 0) => {
+        (Fault::Hop, 0) if end > 0 => output[end - 1] = output[end - 1] % HIGHEST_HOP as u8 + 1,
+        (Fault::Drop, 0) if end > 0 => {
             output[end - RECORD..end].copy_from_slice(&before[end - RECORD..end]);
             return counted(answer.count - 1);
         }
-        (Fault::Extra, 0) if end + RECORD <= output.len() => {
+        (Fault::Extra, 0) if end > 0 && end + RECORD <= output.len() => {
             output.copy_within(end - RECORD..end, end);
+            return counted(answer.count + 1);
+        }
+        (Fault::TopEntry, 0) if !has_top_entry(&output[..end]) && end + RECORD <= output.len() => {
+            output.copy_within(..end, RECORD);
+            output[..RECORD].copy_from_slice(&Prefix::EMPTY.announced(DISCARD).bytes());
             return counted(answer.count + 1);
         }
         (Fault::Order, 0) if answer.count > 1 => output[..2 * RECORD].rotate_left(RECORD),
@@ -187,6 +203,18 @@ fn damage_written(fault: Fault, before: &[u8], output: &mut [u8], answer: Counte
         _ => {}
     }
     answer
+}
+
+/// The first record of a table is that of the empty string, if it has one.
+fn has_top_entry(table: &[u8]) -> bool {
+    table.first_chunk().is_some_and(|&first| Fields::of(first).length == 0)
+}
+
+/// The memory with nothing stored where a discard is held.
+fn without_discards(memory: &Memory) -> Memory {
+    let mut memory = memory.clone();
+    memory.hop.iter_mut().filter(|stored| **stored == u32::from(DISCARD) + 1).for_each(|stored| *stored = 0);
+    memory
 }
 
 /// A writer that copies the ledger out, in the order of a table; it writes what the output has room for.

@@ -83,7 +83,7 @@ loop-again c =
 add-hop : tie.Need-add-hop Inv-loop μ-loop
 add-hop c =
     let entry = c .before .before .before .before .before .before .before .before .before .before in
-    omega (arith, entry .pre .may .1)
+    omega (arith, entry .pre .may)
 
 mul-hop : tie.Need-mul-hop Inv-loop μ-loop
 mul-hop c = omega (arith, c .before .loop .inv .1 .below, c .before .loop .inv .0 .kept .whole .hops)

@@ -10,14 +10,11 @@ update-requires c κs = search needs
 enum-known-updated : tie.Need-enum-known-updated
 enum-known-updated c = search needs
 
-enum-known-updated-2 : tie.Need-enum-known-updated-2
-enum-known-updated-2 c = search needs
+enum-told : tie.Need-enum-told
+enum-told c = search needs
 
 write-requires : tie.Need-write-requires
 write-requires c κs = search needs
-
-with-count-requires : tie.Need-with-count-requires
-with-count-requires c κs = search needs
 
 same-length : tie.Need-same-length
 same-length c = search needs
@@ -57,10 +54,11 @@ same-length-10 c = search needs
 
 returns-2 : tie.Need-returns-2
 returns-2 c =
-    let wrote = c .before .before .before .before .before in
-    let called = wrote .before .before .before .before .before .before .before .before .before .before .before .before .before .before .before .before .before .before in
+    let wrote = c .before .before .before .before in
+    let told = wrote .before .before .before .before .before .before .before in
+    let called = told .before .before .before .before .before .before .before .before .before .before in
     let entry = called .before .before .before .before .before .before .before .before .before .before .before .before in
-    follows _ _ _ _ _ (entry .pre) _ (called .update .ensures) _ (wrote .before .before .before .before .before .before .before .before .updated2 .given .1) _ _ _ _ (wrote .write .ensures) (c .with-count .ensures)
+    follows _ _ _ _ _ (entry .pre) _ (called .update .ensures) _ (told .enum-told .given .1) _ _ _ (wrote .write .ensures)
 
 pub table-in-spec : {M : Type 1} → statement M
 table-in-spec =
@@ -68,9 +66,8 @@ table-in-spec =
     (tie.spec
     update-requires
     enum-known-updated
-    enum-known-updated-2
+    enum-told
     write-requires
-    with-count-requires
     same-length
     same-length-2
     same-length-3

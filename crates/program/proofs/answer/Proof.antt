@@ -2,7 +2,7 @@
 use mathlib.Core.Path.{subst}
 use native.Mathlib.Omega.{arith}
 use Rattle.fresh.specs.Promise.{Tables}
-use Rattle.program.proofs.Telling.{answers-short, answers-long, answers-table, number-fits, place-fits, answers-whole-call, answers-record}
+use Rattle.program.proofs.Telling.{answers-short, answers-long, answers-table, number-fits, place-fits, answers-refusal}
 use borrow.Author.Needs.{needs}
 use Rattle.program.proofs.answer.Statement.{statement}
 use Rattle.program.proofs.answer.Tie as tie
@@ -38,7 +38,18 @@ enum-known-wrote-2 : tie.Need-enum-known-wrote-2
 enum-known-wrote-2 c = search needs
 
 cast-refuse-2 : tie.Need-cast-refuse-2
-cast-refuse-2 c = search needs
+cast-refuse-2 c =
+    let arm = c .before .before in
+    let called = arm .before .before .before .before in
+    let checked = called .before .before in
+    omega (arith, number-fits _ _ (checked .before .if1 .left) (checked .if2 .left) _ _ _ (subst (Tables _ _ _) (arm .wrote2 .given .1) (called .table .ensures)))
+
+cast-refuse-3 : tie.Need-cast-refuse-3
+cast-refuse-3 c =
+    let arm = c .before .before in
+    let called = arm .before .before .before .before in
+    let checked = called .before .before in
+    omega (arith, place-fits _ _ (checked .before .if1 .left) (checked .if2 .left) _ _ _ (subst (Tables _ _ _) (arm .wrote2 .given .1) (called .table .ensures)))
 
 refuse-requires-2 : tie.Need-refuse-requires-2
 refuse-requires-2 c κs = search needs
@@ -48,46 +59,19 @@ same-length-2 c = search needs
 
 returns-3 : tie.Need-returns-3
 returns-3 c =
-    let arm = c .before .before .before .before in
-    let called = arm .before .before .before .before .before .before in
+    let called = c .before .before .before .before .before in
     let checked = called .before .before in
-    answers-whole-call _ _ (checked .before .if1 .left) (checked .if2 .left) _ _ _ (subst (Tables _ _ _) (arm .before .before .wrote2 .given .1) (called .table .ensures)) (arm .if3 .taken) _ _ (c .before .before .refuse2 .ensures)
-
-cast-refuse-3 : tie.Need-cast-refuse-3
-cast-refuse-3 c =
-    let arm = c .before in
-    let called = arm .before .before .before .before .before .before in
-    let checked = called .before .before in
-    omega (arith, number-fits _ _ (checked .before .if1 .left) (checked .if2 .left) _ _ _ (subst (Tables _ _ _) (arm .before .before .wrote2 .given .1) (called .table .ensures)))
-
-cast-refuse-4 : tie.Need-cast-refuse-4
-cast-refuse-4 c =
-    let arm = c .before in
-    let called = arm .before .before .before .before .before .before in
-    let checked = called .before .before in
-    omega (arith, place-fits _ _ (checked .before .if1 .left) (checked .if2 .left) _ _ _ (subst (Tables _ _ _) (arm .before .before .wrote2 .given .1) (called .table .ensures)) (arm .if3 .left))
-
-refuse-requires-3 : tie.Need-refuse-requires-3
-refuse-requires-3 c κs = search needs
+    answers-table _ _ (checked .before .if1 .left) (checked .if2 .left) _ _ (subst (Tables _ _ _) (c .before .wrote .given .1) (called .table .ensures)) .1
 
 same-length-3 : tie.Need-same-length-3
 same-length-3 c = search needs
 
 returns-4 : tie.Need-returns-4
 returns-4 c =
-    let called = c .before .before .before .before .before in
+    let arm = c .before .before .before .before .before in
+    let called = arm .before .before .before .before in
     let checked = called .before .before in
-    answers-table _ _ (checked .before .if1 .left) (checked .if2 .left) _ _ (subst (Tables _ _ _) (c .before .wrote .given .1) (called .table .ensures)) .1
-
-same-length-4 : tie.Need-same-length-4
-same-length-4 c = search needs
-
-returns-5 : tie.Need-returns-5
-returns-5 c =
-    let arm = c .before .before .before .before in
-    let called = arm .before .before .before .before .before .before in
-    let checked = called .before .before in
-    answers-record _ _ (checked .before .if1 .left) (checked .if2 .left) _ _ _ (subst (Tables _ _ _) (arm .before .before .wrote2 .given .1) (called .table .ensures)) (arm .if3 .left) _ _ (c .before .before .refuse3 .ensures)
+    answers-refusal _ _ (checked .before .if1 .left) (checked .if2 .left) _ _ _ (subst (Tables _ _ _) (arm .wrote2 .given .1) (called .table .ensures)) _ _ (c .before .before .refuse2 .ensures)
 
 pub answer-spec : {M : Type 1} → statement M
 answer-spec =
@@ -103,13 +87,9 @@ answer-spec =
     mul-result
     enum-known-wrote-2
     cast-refuse-2
+    cast-refuse-3
     refuse-requires-2
     same-length-2
     returns-3
-    cast-refuse-3
-    cast-refuse-4
-    refuse-requires-3
     same-length-3
-    returns-4
-    same-length-4
-    returns-5)
+    returns-4)

@@ -11,7 +11,7 @@ use Rattle.rules.specs.Numbers.{ipv4, width}
 use Rattle.rules.specs.Records.{takesWithdrawals}
 use Rattle.records.specs.Promise.{useOf}
 use Rattle.records.proofs.Masks.{kept-clear, changed-stray}
-use Rattle.records.proofs.Reading.{fieldsAt, Clean, too-long, stray, low-hop, high-hop, no-withdrawals, no-action, withdrawn-hop, uses, Fetched, faults, answers-announces, answers-withdraws}
+use Rattle.records.proofs.Reading.{fieldsAt, Clean, too-long, stray, high-hop, no-withdrawals, no-action, withdrawn-hop, uses, Fetched, faults, answers-announces, answers-withdraws}
 use Rattle.records.proofs.read_record.Statement.{statement}
 use Rattle.records.proofs.read_record.Tie as tie
 
@@ -37,11 +37,11 @@ clean c =
     record { within = within; clear = kept-clear _ _ (fetched all .fits) within _ (start .pre .table) (c .if2 .left) }
 
 -- past the test of the flag, withdrawals are taken
-takes : (c : tie.Else6)
+takes : (c : tie.Else5)
     → takesWithdrawals (useOf (c .before .before .before .before .before .before .before .before .before .before .args .withdrawals)) ≡ true
 takes c =
     let flag = c .before .before .before .before .before .before .before .before .before .before .args .withdrawals in
-    uses flag (not-false flag (c .if6 .left))
+    uses flag (not-false flag (c .if5 .left))
 
 four-bytes-requires : tie.Need-four-bytes-requires
 four-bytes-requires c κs = search needs
@@ -89,44 +89,38 @@ returns-2 c =
 returns-3 : tie.Need-returns-3
 returns-3 c =
     let kept = c .before .before in
-    faults (fetched (kept .before .before .before)) (search needs) (low-hop (clean kept) (c .before .if3 .taken) (c .if4 .taken))
+    faults (fetched (kept .before .before .before)) (search needs) (high-hop (clean kept) (c .before .if3 .taken) (c .if4 .taken))
 
 returns-4 : tie.Need-returns-4
 returns-4 c =
-    let kept = c .before .before .before in
-    faults (fetched (kept .before .before .before)) (search needs)
-    (high-hop (clean kept) (c .before .before .if3 .taken) (c .before .if4 .left) (c .if5 .taken))
-
-returns-5 : tie.Need-returns-5
-returns-5 c =
-    let kept = c .before .before .before in
-    answers-announces (fetched (kept .before .before .before)) (clean kept) (c .before .before .if3 .taken) (c .before .if4 .left) (c .if5 .left)
+    let kept = c .before .before in
+    answers-announces (fetched (kept .before .before .before)) (clean kept) (c .before .if3 .taken) (c .if4 .left)
 
 -- any other action: rules 6 and 7, or no fault
-returns-6 : tie.Need-returns-6
-returns-6 c =
+returns-5 : tie.Need-returns-5
+returns-5 c =
     let kept = c .before .before in
     let flag = kept .before .before .before .before .before .before .before .before .args .withdrawals in
     faults (fetched (kept .before .before .before)) (search needs)
-    (no-withdrawals (clean kept) (c .before .if3 .left) (uses flag (not-true flag (c .if6 .taken))))
+    (no-withdrawals (clean kept) (c .before .if3 .left) (uses flag (not-true flag (c .if5 .taken))))
+
+returns-6 : tie.Need-returns-6
+returns-6 c =
+    let kept = c .before .before .before in
+    faults (fetched (kept .before .before .before)) (search needs)
+    (no-action (clean kept) (c .before .before .if3 .left) (takes (c .before)) (c .if6 .taken))
 
 returns-7 : tie.Need-returns-7
 returns-7 c =
-    let kept = c .before .before .before in
+    let kept = c .before .before .before .before in
     faults (fetched (kept .before .before .before)) (search needs)
-    (no-action (clean kept) (c .before .before .if3 .left) (takes (c .before)) (c .if7 .taken))
+    (withdrawn-hop (clean kept) (c .before .before .before .if3 .left) (takes (c .before .before)) (c .before .if6 .left) (c .if7 .taken))
 
 returns-8 : tie.Need-returns-8
 returns-8 c =
     let kept = c .before .before .before .before in
-    faults (fetched (kept .before .before .before)) (search needs)
-    (withdrawn-hop (clean kept) (c .before .before .before .if3 .left) (takes (c .before .before)) (c .before .if7 .left) (c .if8 .taken))
-
-returns-9 : tie.Need-returns-9
-returns-9 c =
-    let kept = c .before .before .before .before in
     answers-withdraws (fetched (kept .before .before .before)) (clean kept) (c .before .before .before .if3 .left)
-    (takes (c .before .before)) (c .before .if7 .left) (c .if8 .left)
+    (takes (c .before .before)) (c .before .if6 .left) (c .if7 .left)
 
 pub read-record-spec : {M : Type 1} → statement M
 read-record-spec =
@@ -149,5 +143,4 @@ read-record-spec =
     returns-5
     returns-6
     returns-7
-    returns-8
-    returns-9)
+    returns-8)

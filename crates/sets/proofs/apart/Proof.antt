@@ -1,4 +1,4 @@
--- A word is 0 exactly where it has no member.
+-- Two sets are apart where no flag and no digit is common to them.
 use native.Mathlib.Omega.{arith}
 use Rattle.sets.proofs.Members.{apart-is}
 use Rattle.sets.proofs.apart.Statement.{statement}

@@ -1,11 +1,14 @@
--- The digit that the shift brings down is the hop's.
-use Rattle.sets.proofs.Members.{has-digit, has-none}
+-- The flag is discard's; the digit that the shift brings down is another hop's.
+use Rattle.sets.proofs.Members.{has-discard, has-digit}
 use borrow.Author.Needs.{needs}
 use Rattle.sets.proofs.has.Statement.{statement}
 use Rattle.sets.proofs.has.Tie as tie
 
 returns : tie.Need-returns
-returns c = has-none _ _ (c .if1 .taken)
+returns c = has-discard _ _ (c .if1 .taken)
+
+sub-result : tie.Need-sub-result
+sub-result c = search needs
 
 cast-result : tie.Need-cast-result
 cast-result c = search needs
@@ -17,4 +20,4 @@ returns-2 : tie.Need-returns-2
 returns-2 c = has-digit _ _ (c .before .if1 .left)
 
 pub has-spec : {M : Type 1} → statement M
-has-spec = tie.close (tie.spec returns cast-result shr-result returns-2)
+has-spec = tie.close (tie.spec returns sub-result cast-result shr-result returns-2)

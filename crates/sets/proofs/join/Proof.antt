@@ -9,13 +9,13 @@ apart-requires c κs = search needs
 
 returns : tie.Need-returns
 returns c =
-    let at-if1 = c .before .before in
+    let at-if1 = c .before .before .before .before in
     let at-apart = at-if1 .before in
     join-either _ _ (at-apart .apart .ensures) (at-if1 .if1 .taken)
 
 returns-2 : tie.Need-returns-2
 returns-2 c =
-    let at-if1 = c .before .before in
+    let at-if1 = c .before .before .before .before in
     let at-apart = at-if1 .before in
     join-both _ _ (at-apart .apart .ensures) (at-if1 .if1 .left)
 

@@ -3,6 +3,7 @@
 use super::{Harness, Trial};
 use crate::damage::damage;
 use crate::feeds::{bytes, noise, Feeder};
+use crate::plain::SCRATCH_WORDS;
 use chance::Chance;
 use doors::records::RECORD;
 
@@ -78,14 +79,14 @@ fn lookups(trial: &mut Trial, chance: &mut Chance) {
     trial.lookups(&addresses);
 }
 
-/// The scratch has one word a slot, mostly, and holds anything. The output is as long as the table, or a little shorter
-/// or longer.
+/// The scratch is as long as it has to be, mostly, and holds anything. The output is as long as the table, or a little
+/// shorter or longer.
 fn write(trial: &mut Trial, chance: &mut Chance) {
-    let slots = trial.slots();
+    let (slots, asked) = (trial.slots(), SCRATCH_WORDS * trial.slots());
     let words = if chance.happens(0.9) {
-        slots
+        asked
     } else {
-        *chance.pick(&[0, slots / 2, slots.saturating_sub(1), slots + 1, 2 * slots])
+        *chance.pick(&[0, slots, asked.saturating_sub(1), asked + 1, 2 * asked])
     };
     let scratch: Vec<u64> =
         if chance.happens(0.3) { vec![0; words] } else { (0..words).map(|_| chance.bits()).collect() };

@@ -2,7 +2,7 @@
 
 use super::{Harness, Trial, MOST_SLOTS};
 use crate::feeds::{bytes, Feeder};
-use crate::plain::Prefix;
+use crate::plain::SCRATCH_WORDS;
 use chance::Chance;
 use doors::records::RECORD;
 
@@ -11,14 +11,13 @@ use doors::records::RECORD;
 pub fn full_memory(harness: &mut Harness, chance: &mut Chance) {
     let mut trial = Trial::from_zeros(harness, "scattered routes in full memory".to_string(), MOST_SLOTS);
     let feeder = Feeder::scattered(chance);
-    trial.update(&Prefix::EMPTY.announced(feeder.hop(chance)).bytes());
     for _ in 0..2 {
         // A scattered route needs several slots of its own, so these are more than there is room for.
         let routes: Vec<_> = (0..MOST_SLOTS / 4).map(|_| feeder.prefix(chance).announced(feeder.hop(chance))).collect();
         trial.update(&bytes(&routes));
         whole_table(&mut trial, chance);
         let mut gone = trial.prefixes();
-        gone.retain(|&prefix| prefix != Prefix::EMPTY && chance.happens(0.3));
+        gone.retain(|_| chance.happens(0.3));
         trial.update(&bytes(&gone.iter().map(|prefix| prefix.withdrawn()).collect::<Vec<_>>()));
     }
 }
@@ -28,7 +27,6 @@ pub fn long_list(harness: &mut Harness, chance: &mut Chance) {
     let mut trial = Trial::from_zeros(harness, "a long list".to_string(), MOST_SLOTS);
     let mut feeder = Feeder::new(chance);
     trial.update(&bytes(&feeder.feed(20_000, chance)));
-    trial.update(&feeder.announce(Prefix::EMPTY, chance).bytes());
     whole_table(&mut trial, chance);
 }
 
@@ -37,6 +35,6 @@ fn whole_table(trial: &mut Trial, chance: &mut Chance) {
     trial.lookups(&(0..1000).map(|_| chance.bits() as u32).collect::<Vec<_>>());
     let room = RECORD * trial.records();
     for room in [room.saturating_sub(1), room] {
-        trial.write(&vec![u64::MAX; trial.slots()], &vec![0; room]);
+        trial.write(&vec![u64::MAX; SCRATCH_WORDS * trial.slots()], &vec![0; room]);
     }
 }

@@ -3,7 +3,7 @@
 
 use super::{any, Harness, Trial};
 use crate::feeds::{bytes, Feeder};
-use crate::plain::{HIGHEST_HOP, WIDTH};
+use crate::plain::{DISCARD, HIGHEST_HOP, WIDTH};
 use chance::Chance;
 use doors::Memory;
 
@@ -50,15 +50,18 @@ fn ones(slots: usize, _: &mut Chance) -> Memory {
     Memory { lo: words.clone(), hi: words.clone(), up: words.clone(), hop: words }
 }
 
-/// Words that could be links, marks and hops, and some just outside their range.
+/// Words that could be links, marks and hops, and some just outside their range. A hop is stored with 1 added, and a
+/// held discard is more frequent than chance alone would make it.
 fn small_words(slots: usize, chance: &mut Chance) -> Memory {
     let mut below = |n: usize| (0..slots).map(|_| chance.below(n as u64) as u32).collect();
-    Memory {
+    let mut memory = Memory {
         lo: below(slots + 2),
         hi: below(slots + 2),
         up: below(2 * slots + 3),
         hop: below(usize::from(HIGHEST_HOP) + 4),
-    }
+    };
+    memory.hop.iter_mut().filter(|_| chance.happens(0.1)).for_each(|hop| *hop = u32::from(DISCARD) + 1);
+    memory
 }
 
 /// Small words in which most slots are somebody's child: a tree, with parts that nothing leads to, cycles, links and

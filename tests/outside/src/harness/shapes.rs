@@ -2,6 +2,7 @@
 
 use super::{Harness, Trial, MOST_SLOTS};
 use crate::feeds::{noise, Feeder};
+use crate::plain::SCRATCH_WORDS;
 use chance::Chance;
 use doors::Memory;
 
@@ -41,7 +42,8 @@ fn calls(lengths: [usize; 4], name: String, harness: &mut Harness, chance: &mut 
     trial.update(&noise(7, chance));
     trial.update(&Feeder::new(chance).record(chance).bytes());
     trial.lookups(&[chance.bits() as u32]);
-    for words in [slots, 0, slots.saturating_sub(1), slots + 1] {
+    let asked = SCRATCH_WORDS * slots;
+    for words in [asked, 0, slots, asked.saturating_sub(1), asked + 1] {
         let scratch: Vec<u64> = (0..words).map(|_| chance.bits()).collect();
         trial.write(&scratch, &noise(24, chance));
     }

@@ -2,7 +2,7 @@
 //! plain program: so every later answer is compared with what the calls before it should have left.
 
 use super::{Call, Harness, KEPT, LEDGER, LOOKUP, OUTPUT, SCRATCH, TIDY, UNTOUCHED, UPDATE, WRITE};
-use crate::plain::{self, Ledger, Prefix};
+use crate::plain::{self, Ledger, Prefix, SCRATCH_WORDS};
 use crate::verdict::Failure;
 use crate::{layout, show};
 use doors::{Counted, Found, Memory};
@@ -38,9 +38,9 @@ impl<'h, 'v> Trial<'h, 'v> {
         self.held.iter().flat_map(|ledger| ledger.routes()).map(|(prefix, _)| prefix).collect()
     }
 
-    /// The records that the smallest table has, 0 where none is written.
+    /// The records that the smallest table has, 0 where the memory is refused.
     pub fn records(&self) -> usize {
-        self.held.as_ref().ok().and_then(plain::smallest).map_or(0, |table| table.len())
+        self.held.as_ref().map_or(0, |ledger| plain::smallest(ledger).len())
     }
 
     pub fn update(&mut self, list: &[u8]) -> Counted {
@@ -117,9 +117,9 @@ impl<'h, 'v> Trial<'h, 'v> {
 /// 1 for the working slices or the scratch, then 2, then what the plain program says of the ledger.
 fn write_expected(held: &Result<Ledger, u32>, slots: usize, words: usize, output: &mut [u8]) -> Counted {
     match held {
-        Ok(ledger) if words == slots => plain::write(ledger, output),
-        Err(2) if words == slots => Counted { number: 2, count: 0 },
-        _ => Counted { number: 1, count: 0 },
+        _ if words != SCRATCH_WORDS * slots => Counted { number: 1, count: 0 },
+        Ok(ledger) => plain::write(ledger, output),
+        Err(number) => Counted { number: *number, count: 0 },
     }
 }
 

@@ -55,9 +55,7 @@ pub fn lookup_list(list: &[u8], address: u32) -> Found {
 
 /// Writes the smallest table to the start of an output. A refusal leaves the output as it was.
 pub fn write(ledger: &Ledger, output: &mut [u8]) -> Counted {
-    let Some(table) = smallest(ledger) else {
-        return Counted { number: 10, count: 0 };
-    };
+    let table = smallest(ledger);
     let count = table.len() as u64;
     let bytes: Vec<u8> = table.iter().flat_map(|entry| entry.bytes()).collect();
     match output.get_mut(..bytes.len()) {
@@ -69,18 +67,13 @@ pub fn write(ledger: &Ledger, output: &mut [u8]) -> Counted {
     }
 }
 
-/// The daemon's table call: update, then writing, on a fresh ledger. Only 11 and success have a count of the table's
-/// records.
+/// The daemon's table call: update, then writing, on a fresh ledger.
 pub fn table(list: &[u8], output: &mut [u8]) -> Counted {
     let mut ledger = Ledger::default();
     let updated = update(&mut ledger, TABLE_SLOTS, list);
-    if updated.number != 0 {
-        return updated;
-    }
-    let written = write(&ledger, output);
-    if written.number == 10 {
-        Counted { number: 10, count: updated.count }
+    if updated.number == 0 {
+        write(&ledger, output)
     } else {
-        written
+        updated
     }
 }

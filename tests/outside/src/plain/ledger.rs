@@ -1,6 +1,6 @@
 //! The ledger: which hop is held for which prefix.
 
-use super::{Prefix, WIDTH};
+use super::{Prefix, DISCARD, WIDTH};
 use std::collections::BTreeMap;
 
 #[derive(Clone, Debug, Default, PartialEq, Eq)]
@@ -57,8 +57,8 @@ impl Ledger {
         [false, true].into_iter().filter_map(|bit| string.child(bit)).any(|child| self.begun.contains_key(&child))
     }
 
-    /// The hop of the longest held prefix that begins an address, 0 where none does: all 33 are tried.
+    /// The hop of the longest held prefix that begins an address, discard where none does: all 33 are tried.
     pub fn longest_match(&self, address: u32) -> u16 {
-        (0..=WIDTH).rev().find_map(|length| self.held(Prefix::of(address, length))).unwrap_or(0)
+        (0..=WIDTH).rev().find_map(|length| self.held(Prefix::of(address, length))).unwrap_or(DISCARD)
     }
 }

@@ -33,7 +33,7 @@ pub fn change(record: Fields, actions: &[u8]) -> Result<Change, u32> {
     }
     if record.action == ANNOUNCE {
         match record.hop {
-            1..=HIGHEST_HOP => Ok(Change { prefix, hop: Some(record.hop) }),
+            0..=HIGHEST_HOP => Ok(Change { prefix, hop: Some(record.hop) }),
             _ => Err(7),
         }
     } else {

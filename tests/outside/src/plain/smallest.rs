@@ -1,7 +1,7 @@
-//! The smallest table, as document 01 defines it. The definition speaks of all strings of at most 32 bits; a string
-//! with no held route below it has one hop throughout, so nothing below it is visited.
+//! The smallest table, as document 01 and item 2 of document 02 define it. The definition speaks of all strings of at
+//! most 32 bits; a string with no held route below it has one hop throughout, so nothing below it is visited.
 
-use super::{Ledger, Prefix};
+use super::{Ledger, Prefix, DISCARD};
 use doors::records::Fields;
 
 /// A set of hops: bit h stands for hop h.
@@ -23,7 +23,7 @@ struct Node {
 }
 
 /// The set of a string is its children's common part or, where that is empty, their union. `above` is the hop of the
-/// longest held prefix that is shorter than the string.
+/// longest held prefix that is shorter than the string, discard where there is none.
 fn node(ledger: &Ledger, string: Prefix, above: u16) -> Node {
     let hop = ledger.held(string).unwrap_or(above);
     if !ledger.holds_below(string) {
@@ -36,24 +36,24 @@ fn node(ledger: &Ledger, string: Prefix, above: u16) -> Node {
     Node { string, set, children: vec![left, right] }
 }
 
-/// Going down: no entry if the hop in force above is in the set, otherwise one with the least member. None is in force
-/// above the empty string, so that is always given an entry.
-fn give_entries(node: &Node, in_force: Option<u16>, table: &mut Vec<Fields>) {
-    let hop = in_force.filter(|&hop| node.set & only(hop) != 0).unwrap_or_else(|| {
+/// Going down: no entry if the hop in force above is in the set, otherwise one with the least member.
+fn give_entries(node: &Node, in_force: u16, table: &mut Vec<Fields>) {
+    let hop = if node.set & only(in_force) != 0 {
+        in_force
+    } else {
         let hop = least(node.set);
         table.push(node.string.announced(hop));
         hop
-    });
+    };
     for child in &node.children {
-        give_entries(child, Some(hop), table);
+        give_entries(child, hop, table);
     }
 }
 
-/// The smallest table's entries in the order of the written table; none where no prefix of length 0 is held.
-pub fn smallest(ledger: &Ledger) -> Option<Vec<Fields>> {
-    let default = ledger.held(Prefix::EMPTY)?;
+/// The smallest table's entries in the order of the written table. Above the empty string discard is in force.
+pub fn smallest(ledger: &Ledger) -> Vec<Fields> {
     let mut table = Vec::new();
-    give_entries(&node(ledger, Prefix::EMPTY, default), None, &mut table);
+    give_entries(&node(ledger, Prefix::EMPTY, DISCARD), DISCARD, &mut table);
     table.sort_by_key(|entry| (entry.address, entry.length));
-    Some(table)
+    table
 }

@@ -1,6 +1,6 @@
 //! Small widths by force. At width w a table gives each of the 2^(w+1) - 1 prefixes of at most w bits no entry or one
-//! of the hops; all of them are gone through, and of each forwarding the least number of entries is kept. This paints
-//! rows of hops and uses neither strings, nor sets, nor longest match.
+//! with a hop, discard included; all of them are gone through, and of each forwarding the least number of entries is
+//! kept. This paints rows of hops and uses neither strings, nor sets, nor longest match.
 
 use super::{one, ALIKE, LEAST, ROW};
 use crate::feeds::bytes;
@@ -12,15 +12,19 @@ use chance::Chance;
 use doors::records::RECORD;
 use std::collections::BTreeMap;
 
-/// The hops of all addresses of a small width, two bits for each, the first address lowest; 0 for no route.
+/// The hops of all addresses of a small width, two bits for each, the first address lowest.
 type Row = usize;
 
-/// What a table has for each prefix, shortest first; 0 for no entry.
-type Table = Vec<u8>;
+/// Discard for every address: what is so before any entry.
+const UNPAINTED: Row = 0;
+
+/// The hop that a table has for each prefix, shortest first.
+type Table = Vec<Option<u8>>;
 
 struct Width {
     bits: u8,
-    hops: u8,
+    /// An entry has one of the hops 0 to this.
+    highest: u8,
     /// The prefixes, shortest first, and which cells of a row each paints (1 in each of these cells).
     prefixes: Vec<(Prefix, Row)>,
     /// The least number of entries that leaves a row, found by force; none where no table does.
@@ -28,10 +32,10 @@ struct Width {
 }
 
 impl Width {
-    fn new(bits: u8, hops: u8) -> Width {
-        assert!(hops < 4, "a cell of a row has two bits");
+    fn new(bits: u8, highest: u8) -> Width {
+        assert!(highest < 4, "a cell of a row has two bits");
         let cells = 1 << bits;
-        let mut width = Width { bits, hops, prefixes: Vec::new(), least: vec![None; 1 << (2 * cells)] };
+        let mut width = Width { bits, highest, prefixes: Vec::new(), least: vec![None; 1 << (2 * cells)] };
         for length in 0..=bits {
             let span = cells >> length;
             for start in (0..cells).step_by(span) {
@@ -39,7 +43,7 @@ impl Width {
                 width.prefixes.push((Prefix::of(width.address(start), length), painted));
             }
         }
-        width.go_through(0, 0, 0);
+        width.go_through();
         width
     }
 
@@ -48,78 +52,79 @@ impl Width {
         (cell as u32) << (WIDTH - self.bits)
     }
 
-    /// All tables that go on from here: a longer prefix paints over what shorter ones left.
-    fn go_through(&mut self, place: usize, row: Row, entries: usize) {
-        let Some(&(_, painted)) = self.prefixes.get(place) else {
-            let least = &mut self.least[row];
-            *least = Some(least.map_or(entries, |least| least.min(entries)));
-            return;
-        };
-        self.go_through(place + 1, row, entries);
-        for hop in 1..=usize::from(self.hops) {
-            self.go_through(place + 1, paint(row, painted, hop), entries + 1);
+    /// All tables, a prefix at a time: a longer one paints over what shorter ones left. What comes of a row does not
+    /// hang on the entries that left it, so tables that have left the same row go on as one, with the fewest.
+    fn go_through(&mut self) {
+        self.least[UNPAINTED] = Some(0);
+        for &(_, cells) in &self.prefixes {
+            for (row, least) in self.least.clone().into_iter().enumerate() {
+                let Some(entries) = least.map(|least| least + 1) else {
+                    continue;
+                };
+                for hop in 0..=self.highest {
+                    let least = &mut self.least[paint(row, cells, hop)];
+                    *least = Some(least.map_or(entries, |least| least.min(entries)));
+                }
+            }
         }
     }
 
+    fn entries<'a>(&'a self, table: &'a Table) -> impl Iterator<Item = (Prefix, Row, u8)> + 'a {
+        table.iter().zip(&self.prefixes).filter_map(|(&hop, &(prefix, cells))| Some((prefix, cells, hop?)))
+    }
+
     fn row(&self, table: &Table) -> Row {
-        let painted = |row, (&hop, &(_, cells)): (&u8, &(Prefix, Row))| match hop {
-            0 => row,
-            _ => paint(row, cells, usize::from(hop)),
-        };
-        table.iter().zip(&self.prefixes).fold(0, painted)
+        self.entries(table).fold(UNPAINTED, |row, (_, cells, hop)| paint(row, cells, hop))
     }
 
     fn list(&self, table: &Table) -> Vec<u8> {
-        let entries = table.iter().zip(&self.prefixes).filter(|(&hop, _)| hop != 0);
-        bytes(&entries.map(|(&hop, (prefix, _))| prefix.announced(u16::from(hop))).collect::<Vec<_>>())
+        let announced = |(prefix, _, hop): (Prefix, Row, u8)| prefix.announced(u16::from(hop));
+        bytes(&self.entries(table).map(announced).collect::<Vec<_>>())
     }
 
-    /// The table number n of all tables that hold a default route.
-    fn table(&self, mut n: u64) -> Table {
-        let (hops, choices) = (u64::from(self.hops), u64::from(self.hops) + 1);
-        let default = 1 + (n % hops) as u8;
-        n /= hops;
-        let others = self.prefixes[1..].iter().map(|_| {
-            let hop = (n % choices) as u8;
-            n /= choices;
-            hop
-        });
-        [default].into_iter().chain(others).collect()
+    /// The table number n of all tables.
+    fn table(&self, n: u64) -> Table {
+        let choices = self.choices();
+        let hop = |place| (n / choices.pow(place) % choices).checked_sub(1).map(|hop| hop as u8);
+        (0..self.prefixes.len() as u32).map(hop).collect()
     }
 
-    /// How many tables hold a default route.
+    /// What there is to choose from for each prefix: first no entry, then one with each hop.
+    fn choices(&self) -> u64 {
+        u64::from(self.highest) + 2
+    }
+
     fn tables(&self) -> u64 {
-        u64::from(self.hops) * (u64::from(self.hops) + 1).pow(self.prefixes.len() as u32 - 1)
+        self.choices().pow(self.prefixes.len() as u32)
     }
 
     /// How many ways there are to give each address a hop.
     fn forwardings(&self) -> usize {
-        usize::from(self.hops).pow(1 << self.bits)
+        (usize::from(self.highest) + 1).pow(1 << self.bits)
     }
 
-    /// The tables that give each address a route of its own above a default: with them every forwarding is reached.
+    /// The tables that give each address an entry of its own: with them every forwarding is reached.
     fn full_tables(&self) -> impl Iterator<Item = Table> + '_ {
         let cells = 1 << self.bits;
         let shorter = self.prefixes.len() - cells;
-        let hops = usize::from(self.hops);
+        let hops = usize::from(self.highest) + 1;
         (0..self.forwardings()).map(move |n| {
-            let mut table = vec![0; shorter];
-            table[0] = 1;
-            table.extend((0..cells as u32).map(|cell| 1 + (n / hops.pow(cell) % hops) as u8));
+            let mut table = vec![None; shorter];
+            table.extend((0..cells as u32).map(|cell| Some((n / hops.pow(cell) % hops) as u8)));
             table
         })
     }
 }
 
-fn paint(row: Row, cells: Row, hop: usize) -> Row {
-    row & !(3 * cells) | hop * cells
+fn paint(row: Row, cells: Row, hop: u8) -> Row {
+    row & !(3 * cells) | usize::from(hop) * cells
 }
 
 /// What our writing made of the first table of each forwarding.
 type Seen = BTreeMap<Row, Vec<u8>>;
 
-/// At width 2 with 3 hops every table with a default route is written; at width 3 with 2 hops every forwarding is, and
-/// random tables.
+/// At width 2 with hops 0 to 3 every table is written, with a default route and without; at width 3 with hops 0 to 2
+/// every forwarding is, and random tables.
 pub fn small_widths(options: &Options, chance: &mut Chance, verdict: &mut Verdict) -> String {
     let two = Width::new(2, 3);
     let mut seen_two = Seen::new();

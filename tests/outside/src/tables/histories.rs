@@ -1,13 +1,13 @@
 //! Another way to the same forwarding.
 
 use crate::feeds::{bytes, Feeder};
-use crate::plain::{Ledger, Prefix};
+use crate::plain::{Ledger, Prefix, DISCARD};
 use chance::Chance;
 use doors::records::Fields;
 
 /// A list after which every address has the hop that it has in this ledger, in an order of its own: some routes are
-/// announced with another hop first, others come and go, and others say of a half of a held prefix what the prefix says
-/// anyway.
+/// announced with another hop first, others come and go, and others say what is so anyway: of a half of a held prefix
+/// what the prefix says, and discard where no default route is held.
 pub fn same_forwarding(ledger: &Ledger, chance: &mut Chance) -> Vec<u8> {
     let mut feeder = Feeder::scattered(chance);
     let mut timed = Timed::default();
@@ -23,6 +23,10 @@ pub fn same_forwarding(ledger: &Ledger, chance: &mut Chance) -> Vec<u8> {
             timed.at_any_time(half.announced(hop), chance);
             named.push(half);
         }
+    }
+    if ledger.held(Prefix::EMPTY).is_none() && chance.happens(0.5) {
+        timed.at_any_time(Prefix::EMPTY.announced(DISCARD), chance);
+        named.push(Prefix::EMPTY);
     }
     for _ in 0..chance.below(8) {
         let passing = feeder.prefix(chance);

@@ -3,7 +3,7 @@
 use super::{histories, AGAIN, BEHIND, BYTES, COUNT, HELD, HISTORY, LIST_LOOKUP, LOOKUP, UPDATE};
 use crate::feeds::{bytes, noise, Feeder};
 use crate::ours::Ours;
-use crate::plain::{self, Ledger, Prefix, MOST_SLOTS, WIDTH};
+use crate::plain::{self, Ledger, Prefix, MOST_SLOTS, SCRATCH_WORDS, WIDTH};
 use crate::program::Options;
 use crate::show;
 use crate::verdict::{Failure, Verdict};
@@ -21,7 +21,7 @@ pub struct Totals {
 
 /// A random feed, through our calls and through the plain ones.
 pub fn table(round: u64, options: &Options, chance: &mut Chance, verdict: &mut Verdict, totals: &mut Totals) {
-    let feed = feed_with_default(chance);
+    let feed = any_feed(chance);
     let tried = || format!("round {round}: {}", show::list(&feed));
     let mut ledger = Ledger::default();
     let expected = plain::update(&mut ledger, MOST_SLOTS, &feed);
@@ -48,15 +48,20 @@ pub fn table(round: u64, options: &Options, chance: &mut Chance, verdict: &mut V
     totals.written += count as u64;
 }
 
-/// A feed after which a default route is held. One in ten is scattered over all addresses, the others lie together.
-fn feed_with_default(chance: &mut Chance) -> Vec<u8> {
+/// A feed after which a default route is held or, as often, none. One in ten is scattered over all addresses, the
+/// others lie together.
+fn any_feed(chance: &mut Chance) -> Vec<u8> {
     let mut feeder = if chance.happens(0.1) { Feeder::scattered(chance) } else { Feeder::new(chance) };
     let most = *chance.pick(&[1, 5, 20, 100, 400, 400, 1500]);
     let records = chance.below(most + 1);
     let mut feed = feeder.feed(records, chance);
-    let default = feeder.announce(Prefix::EMPTY, chance);
-    let last = feed.iter().rposition(|record| record.length == 0).map_or(0, |place| place + 1);
-    feed.insert(last + chance.below((feed.len() - last) as u64 + 1) as usize, default);
+    if chance.happens(0.5) {
+        let default = feeder.announce(Prefix::EMPTY, chance);
+        let last = feed.iter().rposition(|record| record.length == 0).map_or(0, |place| place + 1);
+        feed.insert(last + chance.below((feed.len() - last) as u64 + 1) as usize, default);
+    } else {
+        feed.retain(|record| record.length > 0);
+    }
     bytes(&feed)
 }
 
@@ -69,7 +74,7 @@ pub fn load(ours: Ours, list: &[u8]) -> (Counted, Memory) {
 
 /// The table that we write of a memory into this output.
 pub fn write(ours: Ours, memory: &Memory, output: &mut [u8]) -> (Counted, Vec<u8>) {
-    let answer = ours.write(memory, &mut vec![0; memory.up.len()], output);
+    let answer = ours.write(memory, &mut vec![0; SCRATCH_WORDS * memory.up.len()], output);
     let end = if answer.number == 0 { RECORD * answer.count as usize } else { 0 };
     (answer, output[..end.min(output.len())].to_vec())
 }
