@@ -56,7 +56,7 @@ mostInput = 4096
 abbrev pub refusalMark : ℕ
 refusalMark = 255
 
--- the words of scratch that writing asks for: two u64 a slot, as a set can have one member more than a word has bits
+-- the words of scratch that a slot's set takes, two u64, as it can have one member more than a word has bits; and those that writing asks for
 abbrev pub setWords : ℕ
 setWords = 2
 
@@ -91,7 +91,7 @@ notHeld = 8
 abbrev pub noSlots : ℕ
 noSlots = 9
 
--- (10, for a ledger without a default route, has gone with item 2 of document 02)
+-- (10 was that of a ledger without a default route, until item 2 of document 02)
 abbrev pub shortOutput : ℕ
 shortOutput = 11
 

@@ -15,7 +15,7 @@ use Rattle.rules.specs.Lookup.{hopOf}
 unfoldable pub smallestTable : ℕ → Ledger ℕ → List Entry
 smallestTable k L = table hopBound (width k) (leaves only L noRoute) discard
 
--- two ledgers forward alike: the same hop for each address, all of them; a list of entries does as the ledger that it makes
+-- two ledgers forward alike: the same hop or the same discard for each address, all of them; a list of entries does as the ledger that it makes
 abbrev pub ForwardAlike : ℕ → Ledger ℕ → Ledger ℕ → Type 0
 ForwardAlike k L M = (x : ℕ) → x < addresses k → hopOf k L x ≡ hopOf k M x
 
