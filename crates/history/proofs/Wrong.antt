@@ -1,19 +1,25 @@
 -- The wrong writers that document 01 names break the promise, each at one of its cases and in any memory that holds that case's
 -- ledger, whatever they answer and whatever else they leave.
 use mathlib.Core.Path.{_≡_, refl, sym, ap, _∙_}
+use mathlib.Core.Bool.{false, cond}
 use mathlib.Core.List.{List, [], _∷_, _++_}
 use mathlib.Core.Option.{none}
 use Prim.Native.Nat.{ℕ, _≤_, _<_}
 use native.Mathlib.Omega.{arith}
-use lib.ListN.{length, drop, getD}
-use Rattle.theory.specs.Ledger.{Entry, _via_, nothing}
+use lib.ListN.{length, drop, getD, length-replicate}
+use Rattle.theory.specs.Ledger.{Entry, _via_, isHeld, nothing, load}
 use Rattle.rules.specs.Numbers.{ipv4, width, highestHop, mostSlots, scratchWords}
 use Rattle.rules.specs.Records.{printAll, printTable}
+use Rattle.rules.specs.Lookup.{hopOf, scanned, lookedUp}
 use Rattle.rules.specs.Writing.{smallestTable}
+use Rattle.rules.proofs.Records.{scanned-table}
 use Rattle.memory.specs.Layout.{Memory, ledgerOf, zeros, zeroed}
 use Rattle.memory.proofs.Zeros.{zeroed-slots}
+use Rattle.lent.specs.Lent.{lentFault}
+use Rattle.lists.specs.declared.Found.{Found}
+use Rattle.lists.specs.Promise.{answerOf, LooksUpList}
 use Rattle.ledger.specs.declared.Updated.{Updated}
-use Rattle.ledger.specs.Promise.{Updates}
+use Rattle.ledger.specs.Promise.{Updates, foundAfter, LooksUp}
 use Rattle.ledger.proofs.History.{zeroed-fine}
 use Rattle.ledger.proofs.Wrong.{from-zeros}
 use Rattle.writing.specs.declared.Wrote.{Wrote}
@@ -140,3 +146,28 @@ module _ (m : Memory) (scratch output scratch' rest : List ℕ) (r : Wrote) (her
   always-a-default-breaks meets =
       let wrong : _≡_ {A = ℕ} 0 1 = ap firstLength (for-below (printTable ipv4 ([] via 0 ∷ tableBelow) ++ rest) meets) in
       omega arith
+
+-- A LOOKUP under which a held discard hides nothing: address 0 would go to hop 1, in the ledger and in a list
+pub lookup-hides-nothing-breaks : (n : ℕ) → 64 ≤ n → n ≤ mostSlots → (m : Memory) (u : Updated)
+    → Updates (zeroed n) (printAll ipv4 (caseBelow .records)) m u → (r : Found) → LooksUp m 0 r → answerOf r .hop ≡ 1 → ⊥
+unfolding hopOf
+lookup-hides-nothing-breaks n enough few m u meets r looks one =
+    let fine : lentFault m ≡ none = meets .no-2-later (zeroed-fine n (omega arith) few) in
+    let ledger = memory-below n enough few m u meets (zeros (scratchWords n)) (length-replicate (scratchWords n) 0) .ledger in
+    let hop : answerOf r .hop ≡ hopOf ipv4 (ledgerOf (width ipv4) m) 0 = ap (λ a. a .hop) (looks .answer ∙ ap (λ f. foundAfter f m 0) fine) in
+    let discarded : hopOf ipv4 (ledgerOf (width ipv4) m) 0 ≡ 0 = ap (λ L. hopOf ipv4 L 0) ledger ∙ sym (below-holds .lookups 0 (omega arith)) in
+    let wrong : _≡_ {A = ℕ} 1 0 = sym one ∙ hop ∙ discarded in
+    omega arith
+
+abbrev listBelow : List Entry
+listBelow = [] via 1 ∷ (false ∷ []) via 0 ∷ []
+
+pub list-lookup-hides-nothing-breaks : (r : Found) → LooksUpList (printTable ipv4 listBelow) 0 r → answerOf r .hop ≡ 1 → ⊥
+unfolding lookedUp hopOf
+list-lookup-hides-nothing-breaks r looks one =
+    let read : scanned ipv4 (printTable ipv4 listBelow) ≡ record { refusal = none; place = 0; entries = listBelow } =
+    scanned-table ipv4 listBelow ((omega arith, refl, omega arith), ((omega arith, refl, omega arith), tt)) in
+    let hop : answerOf r .hop ≡ lookedUp ipv4 (printTable ipv4 listBelow) 0 .hop = ap (λ a. a .hop) (looks .answer) in
+    let discarded : lookedUp ipv4 (printTable ipv4 listBelow) 0 .hop ≡ 0 = ap (λ s. cond (isHeld (s .refusal)) 0 (hopOf ipv4 (load (s .entries)) 0)) read in
+    let wrong : _≡_ {A = ℕ} 1 0 = sym one ∙ hop ∙ discarded in
+    omega arith
