@@ -20,7 +20,7 @@ use Rattle.rules.proofs.Plain.{Kept, readings-sound, updated-kept, nothing-with
 use Rattle.rules.proofs.Slots.{needs-nothing}
 use Rattle.rules.proofs.Smallest.{smallest-for}
 use Rattle.cases.specs.Trie.{Trie, bare, asLedger, within, needsIn, smallestIn, AppliedIn, applyAllIn}
-use Rattle.cases.specs.Cases.{Result, Case, after, resultOf, Holds, caseA, cases}
+use Rattle.cases.specs.Cases.{Result, Case, after, resultOf, Holds, caseA, caseC, caseG, caseHalf, caseBelow, cases}
 use Rattle.cases.proofs.Trie.{needs-in, table-in}
 use Rattle.cases.proofs.Updates.{imageAll, batch-in}
 
@@ -86,7 +86,23 @@ computed = refl
 pub cases-hold : Each Holds cases
 cases-hold = each-map (λ c. shown c ≡ wanted c) Holds holds cases (each-of-map shown wanted cases computed)
 
+-- those that are cited by name: where in the table they stand is said here alone
+pub A-holds : Holds caseA
+A-holds = cases-hold .0
+
+pub C-holds : Holds caseC
+C-holds = cases-hold .1 .1 .0
+
+pub G-holds : Holds caseG
+G-holds = cases-hold .1 .1 .1 .1 .1 .1 .0
+
+pub half-holds : Holds caseHalf
+half-holds = cases-hold .1 .1 .1 .1 .1 .1 .1 .1 .1 .1 .1 .1 .0
+
+pub below-holds : Holds caseBelow
+below-holds = cases-hold .1 .1 .1 .1 .1 .1 .1 .1 .1 .1 .1 .1 .1 .1 .1 .1 .0
+
 -- IN CASE A every address is discarded
 pub A-discards : (x : ℕ) → x < addresses ipv4 → hopOf ipv4 (after caseA .ledger) x ≡ discard
 unfolding hopOf
-A-discards x l = sym (cases-hold .0 .lookups x l) ∙ longest-nothing discard (bitsOf (width ipv4) x)
+A-discards x l = sym (A-holds .lookups x l) ∙ longest-nothing discard (bitsOf (width ipv4) x)

@@ -9,7 +9,7 @@ use Rattle.rules.specs.Records.{read, strayBits, printTable}
 use Rattle.rules.specs.Lookup.{hopOf}
 use Rattle.rules.specs.Writing.{ForwardsAs, SmallestFor}
 use Rattle.cases.specs.Cases.{after, caseC, tableC, bytesC, copyOfC, caseE, tableE, caseBelow, tableBelow, heldOnly}
-use Rattle.cases.proofs.Cases.{cases-hold, after-in}
+use Rattle.cases.proofs.Cases.{C-holds, below-holds, after-in}
 
 -- C's table whole, byte by byte
 pub bytes-of-C : printTable ipv4 tableC ≡ bytesC
@@ -17,7 +17,7 @@ bytes-of-C = refl
 
 -- a writer that copies the ledger out: C's routes are more than C's table, which forwards alike
 pub copy-is-not-smallest : SmallestFor ipv4 (after caseC .ledger) copyOfC → ⊥
-copy-is-not-smallest s = let few : 4 ≤ 3 = s .fewest tableC (cases-hold .1 .1 .0 .lookups) in omega arith
+copy-is-not-smallest s = let few : 4 ≤ 3 = s .fewest tableC (C-holds .lookups) in omega arith
 
 -- a writer that forgets the strings that were never held: E's 0* is lost, and address 0 goes to the wrong neighbour
 pub forgetful-does-not-agree : ForwardsAs ipv4 (after caseE .ledger) (heldOnly (after caseE .ledger) tableE) → ⊥
@@ -40,4 +40,4 @@ unhidden-does-not-agree agrees =
 -- a writer that always gives the empty string an entry: it has one more than the table, which forwards alike
 pub always-a-default-is-not-smallest : SmallestFor ipv4 (after caseBelow .ledger) ([] via 0 ∷ tableBelow) → ⊥
 always-a-default-is-not-smallest s =
-    let few : 2 ≤ 1 = s .fewest tableBelow (cases-hold .1 .1 .1 .1 .1 .1 .1 .1 .1 .1 .1 .1 .1 .1 .1 .1 .0 .lookups) in omega arith
+    let few : 2 ≤ 1 = s .fewest tableBelow (below-holds .lookups) in omega arith

@@ -1,9 +1,11 @@
 -- DEMAND 3: any run of calls from zeroed memory replies what a plain ledger of the accepted records replies.
 use mathlib.Core.Path.{_≡_, refl, sym, ap, ap₂, subst, subst₂, _∙_}
 use mathlib.Core.Logic.{inl, inr}
+use mathlib.Core.Bool.{false}
 use mathlib.Core.List.{List, [], _∷_, _++_}
 use mathlib.Core.Option.{none}
 use Prim.Native.Nat.{ℕ, _*_, _≤_, _<_}
+use native.Mathlib.Omega.{arith}
 use lib.Dec.{eqb}
 use lib.ListN.{length, take}
 use borrow.Author.Tests.{eqb-true, eqb-false}
@@ -14,9 +16,11 @@ use Rattle.rules.specs.Numbers.{ipv4, width, recordBytes, mostSlots, scratchWor
 use Rattle.rules.specs.Plain.{updated}
 use Rattle.rules.specs.Lookup.{hopOf}
 use Rattle.rules.specs.Writing.{smallestTable, ForwardAlike}
-use Rattle.memory.specs.Layout.{Memory, slots, ledgerOf}
+use Rattle.memory.specs.Layout.{Memory, slots, ledgerOf, zeroed}
+use Rattle.memory.proofs.Find.{not-none}
 use Rattle.memory.proofs.Zeros.{zeroed-ledger, zeroed-slots}
-use Rattle.lent.specs.Lent.{lentFault}
+use Rattle.lent.specs.Lent.{badLent, lentFault}
+use Rattle.lent.proofs.Faults.{good-of}
 use Rattle.ledger.specs.Promise.{afterFault, updateOf, reported, foundAfter}
 use Rattle.ledger.proofs.History.{zeroed-fine}
 use Rattle.writing.specs.declared.Wrote.{Wrote}
@@ -115,6 +119,22 @@ history-writes n some-slot few asks m replies run scratch output scratch' output
     subst₂ (λ L k. WritesSmallest L k output scratch' output' r) same sized
     (writes-smallest m scratch output scratch' output' r meets (fault-none m scratch (after .let-through) (sized ∙ ap scratchWords (sym (after .same-slots))))
     (rw same room))
+
+-- THE SAME IN DEMAND 3'S WORDS: all that is asked of the memory is that refusal 1 lets it through
+slots-lent : (n : ℕ) → badLent (zeroed n) ≡ false → (0 < n) × (n ≤ mostSlots)
+slots-lent n fits =
+    let good = good-of (zeroed n) fits in
+    (not-none n (λ e. good .some-slot (zeroed-slots n ∙ e)), omega (arith, good .few, zeroed-slots n))
+
+pub demand-3 : (n : ℕ) → badLent (zeroed n) ≡ false → (asks : List Ask) (m : Memory) (replies : List Reply) → Run n asks m replies
+    → (scratch output scratch' output' : List ℕ) (r : Wrote) → Writes m scratch output scratch' output' r
+    → length scratch ≡ scratchWords n → bytesFor (smallestTable ipv4 (plainLedger n nothing asks)) ≤ length output
+    → HoldsOfRun n asks m replies × WritesSmallest (plainLedger n nothing asks) (scratchWords n) output scratch' output' r
+demand-3 n fits asks m replies run scratch output scratch' output' r meets sized room =
+    let lent = slots-lent n fits in (
+      history n (lent .0) (lent .1) asks m replies run,
+      history-writes n (lent .0) (lent .1) asks m replies run scratch output scratch' output' r meets sized room,
+    )
 
 -- two histories whose ledgers forward alike: both write the same count and the same bytes
 pub histories-same-bytes : (n : ℕ) → 0 < n → n ≤ mostSlots → (asks : List Ask) (m : Memory) (replies : List Reply) → Run n asks m replies

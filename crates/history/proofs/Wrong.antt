@@ -1,5 +1,6 @@
--- The wrong writers that document 01 names break the promise, each at one of its cases and in any memory that holds that case's
--- ledger, whatever they answer and whatever else they leave.
+-- The wrong writers that document 01 names, and those that item 2 of document 02 makes tempting, break the promise, each at one of the cases
+-- and in any memory that holds that case's ledger, whatever they answer and whatever else they leave; so do lookups under which a held
+-- discard hides nothing.
 use mathlib.Core.Path.{_≡_, refl, sym, ap, _∙_}
 use mathlib.Core.Bool.{false, cond}
 use mathlib.Core.List.{List, [], _∷_, _++_}
@@ -28,15 +29,9 @@ use Rattle.writing.specs.Promise.{bytesFor, writeFault, Writes}
 use Rattle.writing.proofs.Promise.{Same, fault-none, table-of}
 use Rattle.force.specs.Writers.{alwaysUnion}
 use Rattle.cases.specs.Cases.{Case, after, Holds, caseC, tableC, copyOfC, tableF, caseG, tableG, caseHalf, tableHalf, caseBelow, tableBelow}
-use Rattle.cases.proofs.Cases.{cases-hold}
+use Rattle.cases.proofs.Cases.{C-holds, G-holds, half-holds, below-holds}
 use Rattle.history.proofs.Room.{more-room}
 use Rattle.history.proofs.Union.{unionTable, rowC, union-of-C}
-
-pub half-holds : Holds caseHalf
-half-holds = cases-hold .1 .1 .1 .1 .1 .1 .1 .1 .1 .1 .1 .1 .0
-
-below-holds : Holds caseBelow
-below-holds = cases-hold .1 .1 .1 .1 .1 .1 .1 .1 .1 .1 .1 .1 .1 .1 .1 .1 .0
 
 -- A MEMORY THAT HOLDS A CASE: writing is let through, and the ledger is the one that the case's records make
 pub record HoldsCase (c : Case) (m : Memory) (scratch : List ℕ) : Type 0 where
@@ -59,7 +54,7 @@ by-update c holds quiet n some-slot enough few m u meets scratch sized =
 
 pub memory-of-C : (n : ℕ) → 6 ≤ n → n ≤ mostSlots → (m : Memory) (u : Updated) → Updates (zeroed n) (printAll ipv4 (caseC .records)) m u
     → (scratch : List ℕ) → length scratch ≡ scratchWords n → HoldsCase caseC m scratch
-memory-of-C n enough = by-update caseC (cases-hold .1 .1 .0) refl n (omega arith) enough
+memory-of-C n enough = by-update caseC C-holds refl n (omega arith) enough
 
 pub memory-of-half : (n : ℕ) → 64 ≤ n → n ≤ mostSlots → (m : Memory) (u : Updated) → Updates (zeroed n) (printAll ipv4 (caseHalf .records)) m u
     → (scratch : List ℕ) → length scratch ≡ scratchWords n → HoldsCase caseHalf m scratch
@@ -71,7 +66,7 @@ memory-below n enough = by-update caseBelow below-holds refl n (omega arith) eno
 
 pub memory-of-G : (n : ℕ) → 64 ≤ n → n ≤ mostSlots → (m : Memory) (u : Updated) → Updates (zeroed n) (printAll ipv4 (caseG .records)) m u
     → (scratch : List ℕ) → length scratch ≡ scratchWords n → HoldsCase caseG m scratch
-memory-of-G n enough = by-update caseG (cases-hold .1 .1 .1 .1 .1 .1 .0) refl n (omega arith) enough
+memory-of-G n enough = by-update caseG G-holds refl n (omega arith) enough
 
 -- what the promise answers and leaves there
 at-case : (c : Case) (T : List Entry) → Holds c → c .result .output ≡ T
@@ -83,7 +78,7 @@ at-case c T holds is m scratch output scratch' output' r here room meets =
     (ap (smallestTable ipv4) (here .ledger) ∙ ap (λ a. a .output) (holds .answers) ∙ is) room
 
 -- byte 7 of the output is the hop of the first record, and byte 4 its length
-abbrev firstHop : List ℕ → ℕ
+abbrev pub firstHop : List ℕ → ℕ
 firstHop output = getD output 7 0
 
 abbrev firstLength : List ℕ → ℕ
@@ -91,7 +86,7 @@ firstLength output = getD output 4 0
 
 module _ (m : Memory) (scratch scratch' : List ℕ) (r : Wrote) (C : HoldsCase caseC m scratch) where
   for-C : (output output' : List ℕ) → bytesFor tableC ≤ length output → Writes m scratch output scratch' output' r → firstHop output' ≡ 2
-  for-C output output' room meets = ap firstHop (at-case caseC tableC (cases-hold .1 .1 .0) refl m scratch output scratch' output' r C room meets .2)
+  for-C output output' room meets = ap firstHop (at-case caseC tableC C-holds refl m scratch output scratch' output' r C room meets .2)
 
   -- A WRITER THAT LEAVES THE OUTPUT ALONE: zeros, as many as C's table has bytes
   pub leaves-the-output-breaks : Writes m scratch (zeros (bytesFor tableC)) scratch' (zeros (bytesFor tableC)) r → ⊥
@@ -119,7 +114,7 @@ pub keeps-the-sets-breaks : (m : Memory) (scratch output scratch' rest : List �
     → bytesFor tableG ≤ length output → Writes m scratch output scratch' (printTable ipv4 tableF ++ rest) r → ⊥
 keeps-the-sets-breaks m scratch output scratch' rest r G room meets =
     let wrong : _≡_ {A = ℕ} 2 1 =
-    ap firstHop (at-case caseG tableG (cases-hold .1 .1 .1 .1 .1 .1 .0) refl m scratch output scratch' (printTable ipv4 tableF ++ rest) r G room meets .2) in
+    ap firstHop (at-case caseG tableG G-holds refl m scratch output scratch' (printTable ipv4 tableF ++ rest) r G room meets .2) in
     omega arith
 
 -- WITHOUT A DEFAULT ROUTE: one that refuses such a ledger

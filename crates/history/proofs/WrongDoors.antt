@@ -18,7 +18,7 @@ use Rattle.ledger.proofs.Wrong as ledger
 use Rattle.writing.specs.Promise.{bytesFor, intoOutput}
 use Rattle.fresh.specs.Promise.{tabled, afterUpdate, tableOf}
 use Rattle.cases.specs.Cases.{Case, after, Holds, caseC, tableC, copyOfC, caseHalf, tableHalf}
-use Rattle.cases.proofs.Cases.{cases-hold}
+use Rattle.cases.proofs.Cases.{C-holds, half-holds}
 use Rattle.answers.specs.declared.FoundAnswer.{FoundAnswer}
 use Rattle.answers.specs.declared.CountAnswer.{CountAnswer}
 use Rattle.answers.specs.Answers.{numberOf, countFor}
@@ -27,6 +27,7 @@ use Rattle.arvandish_ledger.specs.Promise.{UpdatesToC, LooksUpToC, WritesToC}
 use Rattle.program.specs.Promise.{refusalRecord, afterList, writesFor, Answers}
 use Rattle.history.proofs.Room.{more-room}
 use Rattle.history.proofs.Wrong as wrong
+use Rattle.history.proofs.Wrong.{firstHop}
 
 -- A CASE AT THE DOORS: its list makes in their own slots what it makes in the case's
 at-doors : (c : Case) → Holds c → c .result .refusal ≡ none → c .slots ≤ ownSlots
@@ -35,9 +36,6 @@ at-doors c holds quiet few = more-room (c .slots) ownSlots few nothing (printAll
 
 abbrev listC : List ℕ
 listC = printAll ipv4 (caseC .records)
-
-C-holds : Holds caseC
-C-holds = cases-hold .1 .1 .0
 
 -- A case's table there, and what is left where there is room for it
 tabled-at : (c : Case) (T : List Entry) → Holds c → c .result .output ≡ T → c .result .refusal ≡ none → c .slots ≤ ownSlots → (output : List ℕ)
@@ -54,10 +52,6 @@ tabled-at c T holds is quiet few output room =
 C-tabled : (output : List ℕ) → bytesFor tableC ≤ length output
     → tableOf ownSlots listC output ≡ record { refusal = none; count = 3; output = printTable ipv4 tableC ++ drop (bytesFor tableC) output }
 C-tabled = tabled-at caseC tableC C-holds refl refl (omega arith)
-
--- byte 7 is the hop of the first record
-abbrev firstHop : List ℕ → ℕ
-firstHop output = getD output 7 0
 
 -- THE DAEMON'S TABLE CALL
 module _ (output output' : List ℕ) (r : CountAnswer) (room : bytesFor tableC ≤ length output) (meets : TablesForC listC output output' r) where
@@ -120,13 +114,13 @@ pub table-refuses-no-default-breaks : (output output' : List ℕ) (r : CountAnsw
     → TablesForC (printAll ipv4 (caseHalf .records)) output output' r → (r .number ≡ 0 → ⊥) → ⊥
 table-refuses-no-default-breaks output output' r room meets refuses =
     refuses
-    (ap (λ a. a .number) (meets .answer) ∙ ap (λ t. numberOf (t .refusal)) (tabled-at caseHalf tableHalf wrong.half-holds refl refl (omega arith) output room))
+    (ap (λ a. a .number) (meets .answer) ∙ ap (λ t. numberOf (t .refusal)) (tabled-at caseHalf tableHalf half-holds refl refl (omega arith) output room))
 
 pub program-refuses-no-default-breaks : (number : ℕ) → writesFor (printAll ipv4 (caseHalf .records)) ≡ refusalRecord number 0 → ⊥
 program-refuses-no-default-breaks number tells =
     let wrong : _≡_ {A = ℕ} 1 255 =
     ap (λ b. getD b 5 0)
-    (sym (written-at caseHalf wrong.half-holds refl (omega arith) (omega (arith, printAll-length ipv4 (caseHalf .records)))) ∙ tells) in
+    (sym (written-at caseHalf half-holds refl (omega arith) (omega (arith, printAll-length ipv4 (caseHalf .records)))) ∙ tells) in
     omega arith
 
 -- THE LEDGER DOOR: what is wrong of the calls inside is wrong there

@@ -1,4 +1,4 @@
--- DEMAND 3, in document 01's words.
+-- DEMAND 3, in document 01's words, as item 2 of document 02 changes them.
 use mathlib.Core.Path.{_≡_}
 use mathlib.Core.Bool.{true}
 use mathlib.Core.List.{List, _++_}
@@ -40,10 +40,10 @@ pub record HoldsOfRun (n : ℕ) (asks : List Ask) (m : Memory) (replies : List R
 -- WHAT IS WRITTEN for a ledger L: `count` records, `bytes`
 pub record IsSmallest (L : Ledger ℕ) (count : ℕ) (bytes : List ℕ) : Type 0 where
   pub sized : length bytes ≡ count * recordBytes ipv4
-  -- it agrees with the ledger on all 4,294,967,296 addresses, as our list lookup finds them in these bytes
+  -- the same hop or the same discard as in the ledger on all 4,294,967,296 addresses, as our list lookup finds them in these bytes
   pub agrees : (x : ℕ) → x < addresses ipv4 → (f : Found) → LooksUpList bytes x f
       → answerOf f ≡ record { refusal = none; hop = hopOf ipv4 L x; place = 0 }
-  -- no record list that agrees has fewer records, nor any list of entries with any prefixes and any hops
+  -- no list that agrees has fewer entries: no record list, nor any list of entries with any prefixes and any hops
   pub fewest-records : (list : List ℕ) → AnswersAs ipv4 L list → length bytes ≤ length list
   pub fewest-entries : (es : List Entry) → ForwardsAs ipv4 L es → count ≤ length es
   -- never more than the routes held

@@ -1,9 +1,8 @@
 // Sets of hops, by value and in scratch. This crate alone knows how a set lies in words; the crates above know it by its members.
 ghost use mathlib.Core.Path.{_≡_};
 ghost use mathlib.Core.Bool.{not};
-ghost use Prim.Native.Nat.{_≤_};
 ghost use Rattle.theory.specs.Hops.{only, some-below, least, common, join};
-ghost use Rattle.rules.specs.Numbers.{highestHop, MayAnnounce, hopBound};
+ghost use Rattle.rules.specs.Numbers.{MayAnnounce, hopBound};
 ghost use Rattle.sets.specs.Sets.{members, setIn, HasWords, Keeps};
 use numbers::DISCARD;
 use numbers::SET_WORDS;
