@@ -10,7 +10,7 @@
  *     bytes 0 to 3   address, high byte first
  *     byte  4        prefix length, 0 to 32; the address bits behind it are 0
  *     byte  5        action: 1 announce, 2 withdraw
- *     bytes 6 to 7   hop, high byte first: 0 to 64 to announce, 0 to withdraw
+ *     bytes 6 to 7   hop, high byte first: 0 to 256 to announce, 0 to withdraw
  *
  * An announcement of a prefix that is held replaces its hop. A withdrawal removes exactly that prefix. The hop of an address is that
  * of the longest prefix held that begins it, and 0 where none does. Hop 0 means "discard", for want of a route or by a route that says
@@ -24,9 +24,9 @@
  *      4   a prefix length over 32
  *      5   an address bit behind the length is set
  *      6   the action is not 1 or 2; in arvandish_lookup, not 1
- *      7   the hop is over 64 in an announcement, or not 0 in a withdrawal
+ *      7   the hop is over 256 in an announcement, or not 0 in a withdrawal
  *      8   a withdrawal of a prefix that is not held         (arvandish_table)
- *      9   the routes need more than 4,096 slots             (arvandish_table)
+ *      9   the routes need more than 1,024 slots             (arvandish_table)
  *     11   the output is shorter than the table              (arvandish_table)
  *
  * No call answers 10. A list needs no default route; one that leaves no route held has a table of 0 records.
@@ -38,7 +38,7 @@
  * with length 0. Nothing else: any bytes are taken, each call checks for itself, stays inside what it is lent, and ends.
  *
  * The calls keep no state, allocate nothing and are safe to call from several threads at once, as long as no other thread writes to
- * what is lent. arvandish_table needs about 137 KiB of stack, arvandish_lookup next to none.
+ * what is lent. arvandish_table needs about 70 KiB of stack, arvandish_lookup next to none.
  *
  * That each call answers and leaves what stands here is proved by machine: docs/PROMISES.md.
  */
@@ -73,7 +73,7 @@ struct arvandish_written {
 };
 
 /*
- * Applies an update list to a fresh ledger of 4,096 slots and writes the smallest table that forwards or discards every address as that
+ * Applies an update list to a fresh ledger of 1,024 slots and writes the smallest table that forwards or discards every address as that
  * ledger does: announcements, some of them perhaps with hop 0, by address, then by length. `count` records stand at the start of `out`;
  * the bytes behind them stay as they were. The same forwarding gives the same bytes. On a refusal every byte of `out` is as it was.
  *

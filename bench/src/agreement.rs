@@ -1,7 +1,7 @@
 //! Before anything is timed: small random ledgers and lists that are bent at random, so that every refusal of a list, a
 //! record and a write comes up. Both sides have to answer alike and to leave the same scratch and output.
 
-use crate::generator::Route;
+use crate::generator::{Route, HOPS};
 use crate::inputs::announcement;
 use crate::plain::Ledger;
 use crate::side::{Seat, Side};
@@ -48,10 +48,9 @@ fn some_list(routes: &[Route], chance: &mut Chance) -> Vec<u8> {
     let mut list = Vec::new();
     for _ in 0..chance.below(20) {
         let mut route = few[chance.below(few.len() as u64) as usize];
-        // Discard, which the generator gives to no route.
-        if chance.happens(0.2) {
-            route.hop = 0;
-        }
+        // Any hop, or discard, which the generator gives to no route.
+        let any = 1 + chance.below(HOPS) as u16;
+        route.hop = *chance.pick(&[route.hop, route.hop, any, 0]);
         list.extend(if chance.happens(0.8) {
             announcement(route)
         } else {

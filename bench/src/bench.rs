@@ -6,29 +6,54 @@ use crate::report::{thousands, Section};
 use crate::timing::{Measured, Seats, Times};
 use crate::work::Work;
 use chance::Chance;
-use doors::records::RECORD;
 use std::ops::Range;
 
 /// Tables, inputs and the order of turns are drawn from this.
 pub const SEED: u64 = 1;
-pub const MOST_SLOTS: usize = 65_536;
 
-/// So many tables of a kind and size: writes and whole feeds cycle through them.
-const TABLES: usize = 16;
+/// Everything is measured so many times over, so that no number hangs on what else the machine did in one second;
+pub const PASSES: usize = 5;
+/// and in each pass a work has so many rounds,
+const ROUNDS: usize = 41;
+/// where so many slots are lent. A round takes the longer the more are lent, so then there are fewer.
+pub const USUAL_SLOTS: usize = 65_536;
 
-pub fn tables(kind: Kind, size: usize) -> Vec<Table> {
-    let mut chance = Chance::new(SEED);
-    (0..TABLES).map(|_| Table::draw(kind, size, MOST_SLOTS, &mut chance)).collect()
+/// Tables of one kind and size.
+#[derive(Clone, Copy)]
+pub struct Series {
+    pub kind: Kind,
+    pub size: usize,
+    /// How many there are: writes and whole feeds cycle through them.
+    pub tables: usize,
+    /// The slots lent to each.
+    pub slots: usize,
+}
+
+impl Series {
+    pub fn name(&self) -> String {
+        format!("{} {}", self.kind.name(), thousands(self.size))
+    }
+
+    pub fn draw(&self) -> Vec<Table> {
+        let mut chance = Chance::new(SEED);
+        (0..self.tables).map(|_| Table::draw(self.kind, self.size, &mut chance)).collect()
+    }
+
+    /// The rounds of a pass.
+    pub fn rounds(&self) -> usize {
+        (ROUNDS * USUAL_SLOTS).div_ceil(self.slots)
+    }
 }
 
 pub struct Bench {
     name: String,
     /// The first is held where a work does not say otherwise.
     tables: Vec<Table>,
-    /// The routes that a table would have if there were slots enough.
-    wanted: usize,
     feed: Vec<u8>,
+    slots: [usize; 2],
     seats: Seats,
+    /// Of each pass.
+    rounds: usize,
     chance: Chance,
     word: String,
     rows: Vec<Row>,
@@ -42,17 +67,20 @@ struct Row {
 }
 
 impl Bench {
-    /// The first seats of both sides get so many slots, the second ones so many. Works without the word are left out.
-    pub fn new(name: String, tables: Vec<Table>, wanted: usize, slots: [usize; 2], word: &str) -> Bench {
+    /// The first seats of both sides get so many slots, the second ones so many. Works are left out that have the word
+    /// neither in their name nor in the tables'.
+    pub fn new(name: String, tables: Vec<Table>, slots: [usize; 2], rounds: usize, word: &str) -> Bench {
+        let fits = |table: &Table| slots.iter().all(|slots| slots_needed(&table.routes) <= *slots);
+        assert!(tables.iter().all(fits), "the slots have room for each table");
         let feed = feed_of(&tables[0].routes);
-        let seats = Seats::new(slots, wanted * RECORD);
+        let seats = Seats::new(slots, feed.len());
         let (chance, word) = (Chance::new(SEED), word.to_string());
-        Bench { name, tables, wanted, feed, seats, chance, word, rows: Vec::new() }
+        Bench { name, tables, feed, slots, seats, rounds, chance, word, rows: Vec::new() }
     }
 
     /// A work is taken up, once both sides have been seen to agree on it.
     pub fn row<W: Work + 'static>(&mut self, name: &'static str, work: impl Fn(&mut Inputs) -> W) {
-        if name.contains(&self.word) {
+        if name.contains(&self.word) || self.name.contains(&self.word) {
             let (table, tables) = (&self.tables[0], &self.tables[..]);
             let work = work(&mut Inputs { table, tables, chance: &mut Chance::new(SEED) });
             self.seats.load(&self.feed);
@@ -71,6 +99,14 @@ impl Bench {
         }
     }
 
+    pub fn time_pass(&mut self, pass: usize) {
+        self.time(pass * self.rounds..(pass + 1) * self.rounds);
+    }
+
+    pub fn has_rows(&self) -> bool {
+        !self.rows.is_empty()
+    }
+
     /// The works, each behind the table's name and with its times so far.
     pub fn rows(&self) -> impl Iterator<Item = (&str, &str, &Times)> {
         self.rows.iter().map(|row| (self.name.as_str(), row.name, &row.times))
@@ -80,19 +116,14 @@ impl Bench {
         self.seats.load(&self.feed);
         let written = self.seats.count_written();
         let routes = self.tables[0].routes.len();
-        let fewer = if routes < self.wanted {
-            format!(" ({} were wanted; {} slots have no room for more)", thousands(self.wanted), thousands(MOST_SLOTS))
-        } else {
-            String::new()
-        };
         let about = format!(
-            "{} routes{fewer} need {} slots; the smallest table has {} ({:.0}%).",
+            "{} routes need {} slots; the smallest table has {} ({:.0}%).",
             thousands(routes),
             thousands(slots_needed(&self.tables[0].routes)),
             thousands(written),
             100.0 * written as f64 / routes as f64,
         );
         let rows = self.rows.into_iter().map(|row| (row.name, Measured::of(row.times))).collect();
-        Section { name: self.name, about, rows }
+        Section { name: self.name, about, slots: self.slots, rounds: PASSES * self.rounds, rows }
     }
 }

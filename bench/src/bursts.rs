@@ -80,8 +80,8 @@ impl Churn<'_> {
         Fields::withdrawal(prefix.address, prefix.length)
     }
 
-    /// A route that was withdrawn returns, or a new one comes: a /24 in a block of a real table. A uniform table may
-    /// have taken all the slots there are, so nothing new comes to it.
+    /// A route that was withdrawn returns, or a new one comes: a /24 in a block of a real table. Nothing new comes to a
+    /// uniform table.
     fn arrive(&mut self, blocks: &[Prefix], near: &mut Vec<Prefix>) -> Fields {
         let back = self
             .gone

@@ -117,8 +117,7 @@ pub struct Table {
 }
 
 impl Table {
-    /// A table of so many routes, or of the largest number that the slots have room for.
-    pub fn draw(kind: Kind, count: usize, slots: usize, chance: &mut Chance) -> Table {
+    pub fn draw(kind: Kind, count: usize, chance: &mut Chance) -> Table {
         let hops = Hops::new(kind, chance);
         let mut drawing = Drawing { chance, hops: &hops, count, seen: BTreeSet::new(), routes: Vec::new() };
         let default = drawing.hops.draw(drawing.chance);
@@ -127,8 +126,8 @@ impl Table {
             Kind::Uniform => drawing.uniform(),
             Kind::Real => drawing.real(),
         }
-        let mut routes = drawing.routes;
-        routes.truncate(first_that_fit(&routes, slots));
+        let routes = drawing.routes;
+        assert_eq!(routes.len(), count, "there are so many routes of this kind");
         Table { kind, hops, routes }
     }
 
@@ -151,20 +150,6 @@ pub fn slots_needed(routes: &[Route]) -> usize {
         before = prefix;
     }
     slots
-}
-
-/// How many routes from the first on the slots have room for. More routes never need fewer slots, so halving finds it.
-fn first_that_fit(routes: &[Route], slots: usize) -> usize {
-    let (mut fits, mut beyond) = (0, routes.len() + 1);
-    while beyond - fits > 1 {
-        let middle = (fits + beyond) / 2;
-        if slots_needed(&routes[..middle]) <= slots {
-            fits = middle;
-        } else {
-            beyond = middle;
-        }
-    }
-    fits
 }
 
 pub fn shuffle<T>(items: &mut [T], chance: &mut Chance) {
@@ -204,9 +189,12 @@ impl Drawing<'_> {
     fn real(&mut self) {
         let mut blocks: Vec<u32> = (1..=223).collect();
         shuffle(&mut blocks, self.chance);
-        for block in blocks {
-            let hop = self.hops.draw(self.chance);
-            self.region(Prefix { address: block << 24, length: 8 }, hop);
+        // One pass over all blocks draws some 365,000 routes, so the largest tables take a second.
+        while !self.complete() {
+            for block in &blocks {
+                let hop = self.hops.draw(self.chance);
+                self.region(Prefix { address: block << 24, length: 8 }, hop);
+            }
         }
     }
 

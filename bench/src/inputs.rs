@@ -10,7 +10,7 @@ use doors::records::{Fields, RECORD};
 const BATCH: usize = 2_048;
 /// Batches of a work.
 const BATCHES: usize = 16;
-/// Records of a list that a turn of list lookups goes through, about.
+/// Records of lists that a turn of list lookups goes through, about, where a list does not have more.
 const LIST_RECORDS: usize = 65_536;
 /// Bursts that a table has been through before the one that is timed, so that there are routes to return.
 const EARLIER_BURSTS: usize = 7;
@@ -87,7 +87,7 @@ impl Inputs<'_> {
 
     pub fn list_lookups(&mut self) -> ListLookups {
         let list = feed_of(&self.table.routes);
-        let calls = LIST_RECORDS / self.table.routes.len();
+        let calls = (LIST_RECORDS / self.table.routes.len()).max(1);
         let addresses = (0..calls).map(|_| self.some_route().prefix.some_address(self.chance)).collect();
         ListLookups { list, addresses }
     }

@@ -1,7 +1,7 @@
 //! Measures the proved library against plain Rust of the same job, on the same inputs in one run, and prints Markdown.
 //!
-//! `bench/run` measures everything; `bench/run WORD` only the works that have the word in their name. `bench/against` has two
-//! builds take turns, by `--turns WORD`.
+//! `bench/run` measures everything; `bench/run WORD` only the works that have the word in their name, and the tables
+//! that have it in theirs. `bench/against` has two builds take turns, by `--turns WORD`.
 
 mod agreement;
 mod bench;
@@ -14,50 +14,64 @@ mod side;
 mod timing;
 mod work;
 
-use bench::{tables, Bench, MOST_SLOTS, SEED};
+use bench::{Bench, Series, PASSES, SEED, USUAL_SLOTS};
 use chance::Chance;
 use generator::{slots_needed, Kind};
 use report::{print_section, print_slots, print_summary, print_times, thousands, Section};
 
-const SIZES: [usize; 3] = [1_000, 5_000, 20_000];
 const FEW_SLOTS: usize = 4_096;
+const MOST_SLOTS: usize = 1_048_576;
 
-/// Everything is measured so many times over, so that no number hangs on what else the machine did in one second;
-const PASSES: usize = 5;
-/// and in each pass a work has so many rounds.
-const ROUNDS: usize = 41;
+const SMALL_REAL: Series = usual(Kind::Real, 1_000);
+const SMALL_UNIFORM: Series = usual(Kind::Uniform, 1_000);
+
+/// What is measured on. A write clears the scratch of every slot that is lent, so the usual slots are lent wherever they
+/// have room. There are few of the largest, as all takes long with them.
+const SERIES: [Series; 7] = [
+    SMALL_REAL,
+    usual(Kind::Real, 5_000),
+    usual(Kind::Real, 20_000),
+    SMALL_UNIFORM,
+    usual(Kind::Uniform, 5_000),
+    Series { slots: 262_144, ..usual(Kind::Uniform, 20_000) },
+    Series { slots: MOST_SLOTS, tables: 2, ..usual(Kind::Real, 400_000) },
+];
+
+const fn usual(kind: Kind, size: usize) -> Series {
+    Series { kind, size, tables: 16, slots: USUAL_SLOTS }
+}
 
 fn main() {
     let mut words = std::env::args().skip(1).peekable();
     let turns = words.next_if(|word| word == "--turns").is_some();
     let word = words.next().unwrap_or_default();
-    agreement::check(&tables(Kind::Uniform, SIZES[0])[0].routes, &mut Chance::new(SEED));
-    let kinds = [Kind::Real, Kind::Uniform].into_iter();
-    let mut tables: Vec<Bench> = kinds
-        .flat_map(|kind| SIZES.map(|size| (kind, size)))
-        .map(|(kind, size)| everything(kind, size, &word))
-        .collect();
+    agreement::check(&SMALL_UNIFORM.draw()[0].routes, &mut Chance::new(SEED));
+    // Two builds take hundreds of turns, and one with more than the usual slots takes half a second or longer. So those
+    // tables take none, unless the word names them.
+    let taken = |series: &&Series| !turns || series.slots == USUAL_SLOTS || series.name().contains(&word);
+    let mut tables: Vec<Bench> = SERIES.iter().filter(taken).map(|series| everything(series, &word)).collect();
     if turns {
         return take_turns(&mut tables);
     }
+    tables.retain(Bench::has_rows);
     let mut slots = few_and_many_slots(&word);
-    let mut full = SIZES.map(|size| full_memory(size, &word));
-    for pass in 1..=PASSES {
-        eprintln!("pass {pass} of {PASSES}");
+    let real = SERIES.iter().filter(|series| series.kind == Kind::Real);
+    let mut full: Vec<Bench> = real.map(|series| full_memory(series, &word)).collect();
+    for pass in 0..PASSES {
+        eprintln!("pass {} of {PASSES}", pass + 1);
         for bench in tables.iter_mut().chain([&mut slots]).chain(&mut full) {
-            bench.time(0..ROUNDS);
+            bench.time_pass(pass);
         }
     }
 
-    let rounds = PASSES * ROUNDS;
-    println!("Machine: {}. Rounds: {rounds}. Slots lent: {}.\n", machine(), thousands(MOST_SLOTS));
+    println!("Machine: {}.\n", machine());
     let sections: Vec<Section> = tables.into_iter().map(Bench::section).collect();
     print_summary(&sections);
     sections.iter().for_each(print_section);
     println!("### The same routes in few slots and in many\n");
-    print_slots(&slots.section(), FEW_SLOTS, MOST_SLOTS);
+    print_slots(&slots.section());
     println!("### An announcement that is refused for want of room\n");
-    print_times(&full.map(Bench::section));
+    print_times(&full.into_iter().map(Bench::section).collect::<Vec<_>>());
 }
 
 /// Tells the works; then, for each line that is read, times one round of each and tells how long the seats took.
@@ -76,10 +90,8 @@ fn take_turns(tables: &mut [Bench]) {
     }
 }
 
-fn everything(kind: Kind, size: usize, word: &str) -> Bench {
-    let tables = tables(kind, size);
-    let name = format!("{} {}", kind.name(), thousands(tables[0].routes.len()));
-    let mut bench = Bench::new(name, tables, size, [MOST_SLOTS; 2], word);
+fn everything(series: &Series, word: &str) -> Bench {
+    let mut bench = Bench::new(series.name(), series.draw(), [series.slots; 2], series.rounds(), word);
     bench.row("hop change, one record a call", |inputs| inputs.hop_changes());
     bench.row("withdraw or announce, one record a call", |inputs| inputs.withdrawals_and_announcements());
     bench.row("hop change, in one list", |inputs| inputs.hop_changes_in_one_list());
@@ -96,8 +108,8 @@ fn everything(kind: Kind, size: usize, word: &str) -> Bench {
 
 /// The first seats have few slots, the second ones many.
 fn few_and_many_slots(word: &str) -> Bench {
-    let size = SIZES[0];
-    let mut bench = Bench::new(String::new(), tables(Kind::Real, size), size, [FEW_SLOTS, MOST_SLOTS], word);
+    let (tables, rounds) = (SMALL_REAL.draw(), SMALL_REAL.rounds());
+    let mut bench = Bench::new(String::new(), tables, [FEW_SLOTS, MOST_SLOTS], rounds, word);
     bench.row("hop change, one record a call", |inputs| inputs.hop_changes());
     bench.row("withdraw or announce, one record a call", |inputs| inputs.withdrawals_and_announcements());
     bench.row("ledger lookup, inside a route", |inputs| inputs.addresses_inside());
@@ -105,10 +117,10 @@ fn few_and_many_slots(word: &str) -> Bench {
     bench
 }
 
-fn full_memory(size: usize, word: &str) -> Bench {
-    let tables = tables(Kind::Real, size);
+fn full_memory(series: &Series, word: &str) -> Bench {
+    let tables = Series { tables: 1, ..*series }.draw();
     let slots = slots_needed(&tables[0].routes);
-    let mut bench = Bench::new(thousands(slots), tables, size, [slots; 2], word);
+    let mut bench = Bench::new(thousands(slots), tables, [slots; 2], series.rounds(), word);
     bench.row("announce, refused", |inputs| inputs.one_slot_more());
     bench
 }

@@ -7,6 +7,9 @@ pub struct Section {
     pub name: String,
     /// What it was measured on.
     pub about: String,
+    /// Those lent to the first seats and to the second.
+    pub slots: [usize; 2],
+    pub rounds: usize,
     pub rows: Vec<(&'static str, Measured)>,
 }
 
@@ -23,7 +26,8 @@ pub fn print_summary(sections: &[Section]) {
 
 /// Nanoseconds and ratios of every work on one table.
 pub fn print_section(section: &Section) {
-    println!("### {}\n\n{}\n", section.name, section.about);
+    println!("### {}\n", section.name);
+    println!("Slots lent: {}. Rounds: {}. {}\n", thousands(section.slots[0]), section.rounds, section.about);
     let head = ["Work", "ours, ns", "plain, ns", "ours / plain", "middle half", "control", "middle half"];
     let rows = section.rows.iter().map(|(work, measured)| {
         vec![
@@ -40,9 +44,9 @@ pub fn print_section(section: &Section) {
 }
 
 /// The same works in the seats with few slots and in those with many.
-pub fn print_slots(section: &Section, few: usize, many: usize) {
-    println!("{}\n", section.about);
-    let (few, many) = (thousands(few), thousands(many));
+pub fn print_slots(section: &Section) {
+    println!("Rounds: {}. {}\n", section.rounds, section.about);
+    let [few, many] = section.slots.map(thousands);
     let head = [
         "Work".to_string(),
         format!("ours, {few} slots, ns"),
@@ -67,10 +71,11 @@ pub fn print_slots(section: &Section, few: usize, many: usize) {
 pub fn print_times(sections: &[Section]) {
     let rows = sections.iter().flat_map(|section| {
         section.rows.iter().map(|(_, measured)| {
-            vec![section.name.clone(), nanoseconds(middle_of(measured.ours)), nanoseconds(middle_of(measured.plain))]
+            let [ours, plain] = [measured.ours, measured.plain].map(|seats| nanoseconds(middle_of(seats)));
+            vec![section.name.clone(), section.rounds.to_string(), ours, plain]
         })
     });
-    print_table(vec!["Slots, all in use", "ours, ns", "plain, ns"], rows);
+    print_table(vec!["Slots, all in use", "rounds", "ours, ns", "plain, ns"], rows);
 }
 
 /// The first column to the left, the others to the right.

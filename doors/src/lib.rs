@@ -5,7 +5,7 @@
 pub mod records;
 
 /// The words of scratch that writing asks for each slot.
-pub const SCRATCH_WORDS: usize = 2;
+pub const SCRATCH_WORDS: usize = 5;
 
 /// What a lookup found: number 0 and the hop (0 for discard), or the refusal and the place of the first bad record.
 #[repr(C)]

@@ -1,6 +1,6 @@
 /*
- * Document 01's cases and those of item 2 of document 02, with prefixes as bits. J's 32 slots cannot be lent: this door
- * has 4,096 of its own.
+ * Document 01's cases and those of the items 2 and 3 of document 02, with prefixes as bits. J's 32 slots cannot be
+ * lent: this door has 1,024 of its own.
  */
 #ifndef CASES_H
 #define CASES_H
@@ -39,10 +39,14 @@ static const struct named_case CASES[] = {
     {"I", {{"", 1}, {"01", 2}, {"10", 3}}, 0, 0, {{"", 1}, {"01", 2}, {"10", 3}}},
     {"J", {{"", 1}, {LAST, 2}}, 0, 0, {{"", 1}, {LAST, 2}}},
     {"K", {{"", WITHDRAWN}}, 8, 0, {{0}}},
-    {"L, 64", {{"", 64}}, 0, 0, {{"", 64}}},
-    {"L, 65", {{"", 1}, {"0", 65}}, 7, 1, {{0}}},
+    {"L, 256", {{"", 256}}, 0, 0, {{"", 256}}},
+    {"L, 257", {{"", 1}, {"0", 257}}, 7, 1, {{0}}},
     {"L, 0", {{"", 1}, {"00", 0}}, 0, 0, {{"", 1}, {"00", 0}}},
     {"M, 32", {{"", 1}, {LAST, 64}}, 0, 0, {{"", 1}, {LAST, 64}}},
+    {"64 and 65", {{"0", 65}, {"1", 64}}, 0, 0, {{"", 64}, {"0", 65}}},
+    {"128 and 129", {{"0", 129}, {"1", 128}}, 0, 0, {{"", 128}, {"0", 129}}},
+    {"192 and 193", {{"0", 193}, {"1", 192}}, 0, 0, {{"", 192}, {"0", 193}}},
+    {"C, hops far apart", {{"", 1}, {"00", 193}, {"10", 193}, {"11", 65}}, 0, 0, {{"", 193}, {"01", 1}, {"11", 65}}},
     {"a prefix comes back", {{"", 1}, {"0", 2}, {"0", WITHDRAWN}, {"0", 3}}, 0, 0, {{"", 1}, {"0", 3}}},
     {"withdrawn twice", {{"", 1}, {"0", 2}, {"0", WITHDRAWN}, {"0", WITHDRAWN}}, 8, 3, {{0}}},
     {"a longer one stays", {{"", 1}, {"0", 2}, {"00", 3}, {"0", WITHDRAWN}}, 0, 0, {{"", 1}, {"00", 3}}},

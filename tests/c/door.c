@@ -5,7 +5,7 @@
 #include "cases.h"
 #include "plain.h"
 
-enum { SLOTS = 4096, GOOD = 5 };
+enum { SLOTS = 1024, GOOD = 5 };
 static const uint32_t LAST_ADDRESS = 0xFFFFFFFF;
 
 static void good_announcements(struct list *list)
@@ -14,7 +14,7 @@ static void good_announcements(struct list *list)
     announce(list, 0, 0, 1);
     announce(list, 0x0A000000, 8, 2);
     announce(list, 0x0A010000, 16, 3);
-    announce(list, LAST_ADDRESS, 32, 64);
+    announce(list, LAST_ADDRESS, 32, 256);
     announce(list, 0x80000000, 1, 4);
 }
 
@@ -26,11 +26,11 @@ struct damage {
 
 /* Where several rules are broken, the first gives the number. */
 static const struct damage DAMAGES[] = {
-    {0x0A000000, 33, ANNOUNCE, 1, 4, 4},    {0x0A000001, 255, 3, 65, 4, 4},         {0, 128, WITHDRAW, 0, 4, 4},
-    {0x0A000001, 8, ANNOUNCE, 1, 5, 5},     {0x80000000, 0, ANNOUNCE, 1, 5, 5},     {0xFFFFFFFF, 31, 3, 65, 5, 5},
+    {0x0A000000, 33, ANNOUNCE, 1, 4, 4},    {0x0A000001, 255, 3, 257, 4, 4},        {0, 128, WITHDRAW, 0, 4, 4},
+    {0x0A000001, 8, ANNOUNCE, 1, 5, 5},     {0x80000000, 0, ANNOUNCE, 1, 5, 5},     {0xFFFFFFFF, 31, 3, 257, 5, 5},
     {0x0A800000, 8, WITHDRAW, 0, 5, 5},     {0x0A000000, 8, 0, 1, 6, 6},            {0x0A000000, 8, 3, 0, 6, 6},
-    {0x0A000000, 8, 255, 65, 6, 6},         {0x0A000000, 8, ANNOUNCE, 256, 7, 7},   {0x0A000000, 8, ANNOUNCE, 65, 7, 7},
-    {0x0A000000, 8, ANNOUNCE, 65535, 7, 7}, {0x0A000000, 8, WITHDRAW, 256, 7, 6},   {0x0A000000, 8, WITHDRAW, 1, 7, 6},
+    {0x0A000000, 8, 255, 257, 6, 6},        {0x0A000000, 8, ANNOUNCE, 257, 7, 7},   {0x0A000000, 8, WITHDRAW, 1, 7, 6},
+    {0x0A000000, 8, ANNOUNCE, 65535, 7, 7}, {0x0A000000, 8, WITHDRAW, 256, 7, 6},   {0, 8, ANNOUNCE, 512, 7, 7},
     {0x0B000000, 8, WITHDRAW, 0, 8, 6},     {0x0A000000, 9, WITHDRAW, 0, 8, 6},     {0x0A000000, 7, WITHDRAW, 0, 8, 6},
     {0, 32, WITHDRAW, 0, 8, 6},
 };
@@ -59,7 +59,7 @@ static void damaged_records(void)
 
     now_trying("of two bad records the first counts");
     put(&list, 3, 0, 0, 3, 1);
-    put(&list, 2, 0, 0, ANNOUNCE, 65);
+    put(&list, 2, 0, 0, ANNOUNCE, 257);
     TABLE_REFUSED(all_of(&list), 40, 7, 2);
     LOOKUP_REFUSED(all_of(&list), 0, 7, 2);
 }
@@ -70,7 +70,7 @@ static void lengths(void)
     static struct list good, bad;
     good_announcements(&good);
     bad = good;
-    put(&bad, 0, 1, 33, 3, 65);
+    put(&bad, 0, 1, 33, 3, 257);
     for (size_t length = 0; length <= RECORD * GOOD; length++) {
         struct bytes list = {good.bytes, length}, damaged = {bad.bytes, length};
         now_trying("%zu bytes", length);
@@ -115,7 +115,7 @@ static void lookups(void)
         uint32_t address, hop;
     } known[] = {{0, 1},          {0x09FFFFFF, 1}, {0x0A000000, 2}, {0x0A00FFFF, 2}, {0x0A010000, 3},
                  {0x0A01FFFF, 3}, {0x0A020000, 2}, {0x0AFFFFFF, 2}, {0x0B000000, 1}, {0x7FFFFFFF, 1},
-                 {0x80000000, 4}, {0xFFFFFFFE, 4}, {0xFFFFFFFF, 64}};
+                 {0x80000000, 4}, {0xFFFFFFFE, 4}, {0xFFFFFFFF, 256}};
     for (size_t k = 0; k < sizeof known / sizeof *known; k++)
         LOOKUP(all_of(&list), known[k].address, known[k].hop);
 
@@ -124,7 +124,7 @@ static void lookups(void)
     for (unsigned length = 32; length > 0; length--)
         announce(&list, (uint32_t)(0xA5A5A5A5ull >> (32 - length) << (32 - length)), length, length);
     for (unsigned length = 1; length <= 32; length += 3)
-        announce(&list, (uint32_t)(0xA5A5A5A5ull >> (32 - length) << (32 - length)), length, 65 - length);
+        announce(&list, (uint32_t)(0xA5A5A5A5ull >> (32 - length) << (32 - length)), length, 257 - length);
     edges(&list);
     now_trying("no route");
     LOOKUP(all_of(&list), 0x7FFFFFFF, 0);
@@ -147,7 +147,7 @@ static void lookups(void)
     LOOKUP(all_of(&list), 0x80000000, 3);
 }
 
-/* All strings of at most 11 bits are 4,095; with one of 12 bits the library's slots are used up. */
+/* All strings of at most 9 bits are 1,023; with one of 10 bits the library's slots are used up. */
 static void slots(void)
 {
     static struct list list, table;
@@ -197,19 +197,24 @@ static uint32_t draw(uint32_t bound)
     return word % bound;
 }
 
-/* Random announcements of prefixes of at most WIDE bits, discards among them, and withdrawals if these are wanted. */
+/*
+ * Random announcements of prefixes of at most WIDE bits, discards among them, and withdrawals if these are wanted. The
+ * hops are those at both ends of each word in which the library keeps a set.
+ */
 static void random_list(struct list *list, struct plain *plain, size_t records, bool withdrawals)
 {
+    static const unsigned hops[] = {DISCARD, 1, 64, 65, 128, 129, 192, 193, HIGHEST_HOP};
     memset(plain, 0, sizeof *plain);
     list->count = 0;
     while (list->count < records) {
-        unsigned length = draw(WIDE + 1), string = (1u << length) + draw(1u << length), hop = draw(5);
+        unsigned length = draw(WIDE + 1), string = (1u << length) + draw(1u << length);
+        unsigned hop = hops[draw(sizeof hops / sizeof *hops)];
         if (withdrawals && plain->held[string] != 0) {
             withdraw(list, start_of(string, length), length);
             plain->held[string] = 0;
         } else {
             announce(list, start_of(string, length), length, hop);
-            plain->held[string] = (uint8_t)(hop + 1);
+            plain->held[string] = (uint16_t)(hop + 1);
         }
     }
 }

@@ -1,8 +1,10 @@
-"""Document 01, with item 2 of document 02, in plain Python, for the programs' oracles.
+"""Document 01, with the items 2 and 3 of document 02, in plain Python, for the programs' oracles.
 
 A ledger here is a dictionary from bit strings to hops, 0 where a discard is held; no slot is simulated, and lookup tries every
 prefix. Memory that our calls did not make is read as docs/LAYOUT.md says."""
 ALL = 2**32 - 1  # 255.255.255.255
+HIGHEST_HOP, MOST_SLOTS = 256, 2**20
+MANY_SLOTS = 4096  # more than any other trial lends; the most are lent in tests/outside
 QUARTER = [k << 30 for k in range(4)]
 NAMES = {1: "announce", 2: "withdraw"}
 lines = []
@@ -44,7 +46,7 @@ def fault(record, withdrawals):
         return 5
     if action not in ((1, 2) if withdrawals else (1,)):
         return 6
-    if (action == 1 and hop > 64) or (action == 2 and hop != 0):
+    if (action == 1 and hop > HIGHEST_HOP) or (action == 2 and hop != 0):
         return 7
     return 0
 
@@ -143,7 +145,7 @@ def read(lo, hi, up, hop):
     routes = {}
 
     def walk(string, slot):
-        if 1 <= hop[slot] <= 65:
+        if 1 <= hop[slot] <= HIGHEST_HOP + 1:
             routes[string] = hop[slot] - 1
         if len(string) < 32:
             for bit, link in ((0, lo[slot]), (1, hi[slot])):

@@ -45,7 +45,15 @@ def fewest(routes):
     def cost(string, above):
         if string not in inner:
             return int(hop(string) != above)
-        return min(cost(string + "0", h) + cost(string + "1", h) + int(h != above) for h in {above, 0} | set(routes.values()))
+        return min(below(string, above), 1 + least_below(string))
+
+    def below(string, here):
+        """Where `here` is in force from the string on."""
+        return cost(string + "0", here) + cost(string + "1", here)
+
+    @cache
+    def least_below(string):
+        return min(below(string, here) for here in {0} | set(routes.values()))
 
     return cost("", 0)
 

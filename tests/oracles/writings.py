@@ -1,10 +1,13 @@
 """What crates/writings tries, in its order."""
-from plain import ALL, LOOK, QUARTER, Ledger, announce, around, bits, list_lookup, memory, next_word, say, scatter, text, withdraw
+from plain import (ALL, LOOK, MANY_SLOTS, MOST_SLOTS, QUARTER, Ledger, announce, around, bits, list_lookup, memory, next_word, say,
+                   scatter, text, withdraw)
 from smallest import by_force, fewest, smallest
 
 WRITE = "write"
 ONES = 2**64 - 1
-ROOM, MOST_ROOM = 64, 512  # bytes of output: where a few records are to have more than they need, and the most
+SET_WORDS = 5  # of scratch, for each slot
+SLOTS = 512  # where a table is loaded again
+ROOM, MOST_ROOM = 64, 2048  # bytes of output: where a few records are to have more than they need, and the most
 TEN = 0x0A000000
 
 
@@ -18,14 +21,14 @@ def in_bytes(record):
 
 
 class Writer(Ledger):
-    """A ledger that is written, too: with a scratch of so many words, two a slot if None, each of them `fill`, into an output of
-    `room` bytes."""
+    """A ledger that is written, too: with a scratch of so many words, as many as its slots need if None, each of them `fill`, into an
+    output of `room` bytes."""
 
     words, fill, room = None, ONES, ROOM
 
     def answer(self):
         """The number of a refusal or 0, the count, and the table."""
-        if self.whole == 1 or self.words not in (None, 2 * self.slots):
+        if self.whole == 1 or self.words not in (None, SET_WORDS * self.slots):
             return 1, 0, []
         if self.whole:
             return self.whole, 0, []
@@ -46,7 +49,7 @@ class Writer(Ledger):
             say("    %s %s" % (in_bytes(record).hex(" "), text(record)))
         self.look()
         say("    in list" + around(lambda address: list_lookup(table, 8 * count, address)))
-        fresh = Writer(256)
+        fresh = Writer(SLOTS)
         fresh.room = MOST_ROOM
         say("    loaded: " + fresh.update(table))
         number, count, again = fresh.answer()
@@ -86,7 +89,7 @@ def cases():
     trial("case J", 33, ROOM, *j)
     trial("case J", 32, ROOM, *j)
     trial("case K", 1, ROOM, withdraw(0, 0), LOOK, WRITE)
-    trial("case L", 1, ROOM, announce(0, 0, 64), announce(0, 0, 65), WRITE, announce(0, 0, 0), WRITE)
+    trial("case L", 1, ROOM, announce(0, 0, 256), announce(0, 0, 257), WRITE, announce(0, 0, 0), WRITE)
     trial("case M", 33, ROOM, announce(0, 0, 1), announce(TEN, 32, 2), announce(TEN, 33, 3), WRITE)
     say("-- case N: 1 slot")
     ledger = Writer(1)
@@ -109,26 +112,24 @@ def discards():
 
 def odd(lengths, words, fill):
     say("-- lo %d, hi %d, up %d, hop %d, scratch %d words of %d" % (*lengths, words, fill))
-    ledger = Writer(lengths[0], whole=0 if len(set(lengths)) == 1 and 1 <= lengths[0] <= 65536 else 1)
+    ledger = Writer(lengths[0], whole=0 if len(set(lengths)) == 1 and 1 <= lengths[0] <= MOST_SLOTS else 1)
     ledger.words, ledger.fill = words, fill
     ledger.run(announce(0, 0, 1), announce(QUARTER[1], 2, 2), announce(QUARTER[2], 2, 3), WRITE)
 
 
 def slices():
-    for words, fill in [(12, ONES), (12, 0), (11, ONES), (13, ONES), (6, ONES), (0, ONES)]:
+    for words, fill in [(30, ONES), (30, 0), (29, ONES), (31, ONES), (24, ONES), (12, ONES), (6, ONES), (0, ONES)]:
         odd((6, 6, 6, 6), words, fill)
     odd((0, 0, 0, 0), 0, ONES)
     for shorter in range(4):
-        odd([5 if k == shorter else 6 for k in range(4)], 12, ONES)
+        odd([5 if k == shorter else 6 for k in range(4)], 30, ONES)
     trial("no record", 1, 0, WRITE)
     for room in (0, 7, 8, 15):
         trial("one record", 1, room, announce(0, 0, 1), WRITE)
     for room in (7, 8):
         trial("one record, no default route", 2, room, announce(QUARTER[2], 1, 1), WRITE)
-    say("-- 65536 slots")
-    Writer(65536).run(announce(0, 0, 1), announce(ALL, 32, 2), WRITE)
-    say("-- 65537 slots")
-    Writer(65537, whole=1).write()
+    say("-- %d slots" % MANY_SLOTS)
+    Writer(MANY_SLOTS).run(announce(0, 0, 1), announce(ALL, 32, 2), WRITE)
 
 
 def made(*slices):
@@ -146,22 +147,22 @@ def memories():
     for first in (ALL, 13, 12):
         say("-- 12 slots filled with 4294967295, up[0] %d" % first)
         ledger = memory(ones, ones, [first] + ones[1:], ones, Writer)
-        for ledger.words in (25, 12, 24):
+        for ledger.words in (61, 24, 60):
             ledger.write()
     four("slot 1 is its own child, and slot 0 names it on both sides", [1, 1, 0, 0], [1, 0, 0, 0], [0, 3, 0, 0], [6, 21, 0, 0])
     four("slot 1 is the child of slot 0, slot 2 of slot 1, and slot 2 names slot 1 and itself",
          [1, 2, 1, 0], [0, 0, 2, 0], [0, 1, 3, 0], [6, 31, 32, 0])
     four("slots 0 and 1 both name slot 2, which carries the mark of slot 0", [1, 2, 0, 0], [2, 0, 0, 0], [0, 1, 2, 0], [6, 41, 42, 0])
-    for stored, means in ((65, "64"), (66, "none"), (1, "discard")):
+    for stored, means in ((257, "256"), (258, "none"), (1, "discard")):
         four("the default route's hop is stored as %d, which is %s" % (stored, means),
-             [1, 3, 0, 0], [2, 0, 0, 0], [4, 1, 2, 3], [stored, 66, 1, ALL])
+             [1, 3, 0, 0], [2, 0, 0, 0], [4, 1, 2, 3], [stored, 258, 1, ALL])
     for seed in (1, 265776, 235148, 215029, 176853, 265071, 1348941):
         say("-- 8 slots of pseudo-random words, seed %d" % seed)
         made(*scatter(seed, 8, (8, 8, 9, 7)))
 
 
 def random_changes(seed):
-    """Twice 20 changes and a writing: lengths 0 to 8 and 32, hops 0 to 4 and 61 to 64."""
+    """Twice 20 changes and a writing: lengths 0 to 8 and 32, hops 0 and at both ends of each of a set's words."""
     last = seed
     for place in range(42):
         word = next_word(last)
@@ -173,12 +174,12 @@ def random_changes(seed):
         elif word % 4 == 0:
             yield withdraw(address, size)
         else:
-            yield announce(address, size, [0, 1, 2, 3, 4, 61, 62, 63, 64][word // 40 % 9])
+            yield announce(address, size, [0, 64, 128, 192, 256, 1, 65, 129, 193][word // 40 % 9])
 
 
 def runs():
-    trial("every hop", 128, MOST_ROOM, announce(0, 0, 64), *(announce(k << 26, 6, k + 1) for k in range(64)), WRITE,
-          announce(63 << 26, 7, 0), WRITE)
+    trial("every hop", 512, MOST_ROOM, announce(0, 0, 256), *(announce(k << 24, 8, k + 1) for k in range(256)), WRITE,
+          announce(255 << 24, 9, 0), WRITE)
     trial("every length", 33, MOST_ROOM, *(announce(0, size, size % 3 + 1) for size in range(33)), WRITE)
     for seed, slots in ((208, 200), (1950, 120), (1574, 80), (197, 50), (2433, 50)):
         say("-- seed %d" % seed)

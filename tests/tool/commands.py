@@ -67,9 +67,9 @@ def lookups():
     answers = "255.255.255.255 via 3\n0.0.0.0 via 2\n64.0.0.0 via 1\n0.0.0.0 via 2\n"
     for table in ([], ["--table"]):
         says(["lookup", "255.255.255.255", "0.0.0.0", "64.0.0.0", "0.0.0.0", C, *table], out=answers)
-        feed = "10.0.0.0/8 via 5\n10.0.0.0/8 via 6\n10.1.0.0/16 via 7\n"
+        feed = "10.0.0.0/8 via 5\n10.0.0.0/8 via 6\n10.1.0.0/16 via 256\n"
         says(["lookup", *table, "10.2.0.0", "10.1.0.0", "11.0.0.0"], feed,
-             out="10.2.0.0 via 6\n10.1.0.0 via 7\n11.0.0.0 is discarded\n")
+             out="10.2.0.0 via 6\n10.1.0.0 via 256\n11.0.0.0 is discarded\n")
     withdrawn = "10.0.0.0/8 via 5\n10.1.0.0/16 via 7\nwithdraw 10.0.0.0/8\n"
     says(["lookup", "10.2.0.0", "10.1.0.0"], withdrawn, out="10.2.0.0 is discarded\n10.1.0.0 via 7\n")
 
@@ -80,7 +80,7 @@ def files():
         told = figures(4, 6, SLOTS, 3)
         says(["squeeze", "-o", path, C], err=told)
         same("-o", {"file": TABLE}, {"file": file(path)})
-        for feed, expected in (("10.0.0.0/8 via 65", 1), ("10.0.0.0/8", 2)):
+        for feed, expected in (("10.0.0.0/8 via 257", 1), ("10.0.0.0/8", 2)):
             _, _, status = run(["squeeze", "--output=" + path], feed)
             same("-o and no table", {"status": expected, "file": TABLE}, {"status": status, "file": file(path)})
         says(["squeeze", "-q", "-o", path], "")
@@ -109,7 +109,7 @@ def pipes():
     with open("/dev/full", "wb") as full:
         wrong(["squeeze", C], "", "standard output: No space left on device (os error 28)", stdout=full)
         says(["squeeze", C], out=TABLE, stderr=full, title="no room for the figures:")
-        says(["squeeze"], "10.0.0.0/8 via 65", status=1, stderr=full, title="no room for the refusal:")
+        says(["squeeze"], "10.0.0.0/8 via 257", status=1, stderr=full, title="no room for the refusal:")
     ours, theirs = pty.openpty()
     no_text = "records are no text for a terminal: name a file with -o, or use a pipe" + HINT
     for arguments in (["pack", C], ["squeeze", "--to", "records", C]):

@@ -19,7 +19,7 @@ TABLES = [  # a feed, how many routes it leaves held, how many slots they use, a
     ("default discard", 1, 1, ""),
     ("10.0.0.0/8 via 5\n10.0.0.0/8 discard", 1, 9, ""),
     ("default discard\n10.0.0.0/8 via 5", 2, 9, "10.0.0.0/8 via 5\n"),
-    ("0.0.0.0/1 via 64\n128.0.0.0/1 discard", 2, 3, "0.0.0.0/1 via 64\n"),
+    ("0.0.0.0/1 via 256\n128.0.0.0/1 discard", 2, 3, "0.0.0.0/1 via 256\n"),
     (HIDING, 3, 17, "0.0.0.0/0 via 1\n10.0.0.0/8 discard\n10.1.0.0/16 via 2\n"),
     (HIDING + "withdraw 10.0.0.0/8", 2, 17, "0.0.0.0/0 via 1\n10.1.0.0/16 via 2\n"),
     # The empty string's set is 0, 1, 2: although a default route is held, it gets no entry.

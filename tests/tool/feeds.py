@@ -1,11 +1,11 @@
 """Long feeds: 20,000 lines, and feeds that need more slots than the tool lends at first, or than there can be."""
 from checks import figures, lines, packed, refuses, says
-from plain import bits, dotted, next_word
-from samples import answers, table_of
+from plain import bits, dotted, needs, next_word
+from samples import MOST_SLOTS, SLOTS, answers, table_of
 
 LINES = 20000
-MOST_SLOTS = 65536
 TEN = 0x0A000000
+DRAWN = (None, 0, 1, 64, 65, 128, 129, 192, 193, 256)  # a withdrawal, discard, and the ends of each word of a set
 
 
 def words(seed):
@@ -23,8 +23,8 @@ def busy(default):
     while len(records) < LINES:
         length = 12 + next(draw) % 11
         address = TEN | (next(draw) & 0xFFFFFF) >> 32 - length << 32 - length
-        prefix, hop = bits(address, length), next(draw) % 8
-        if hop < 7:  # 7 draws a withdrawal
+        prefix, hop = bits(address, length), DRAWN[next(draw) % len(DRAWN)]
+        if hop is not None:
             routes[prefix] = hop
             records.append((address, length, 1, hop))
         elif prefix in routes:
@@ -33,16 +33,12 @@ def busy(default):
     return records, routes
 
 
-def used(routes):
-    return {prefix[:k] for prefix in routes for k in range(len(prefix) + 1)} | {""}
-
-
 def taken(default):
     records, routes = busy(default)
-    table, slots = table_of(routes), 4096
+    table, slots = table_of(routes), SLOTS
     while slots < most_used(records):
         slots *= 2
-    told = figures(len(routes), len(used(routes)), slots, len(table))
+    told = figures(len(routes), needs(routes), slots, len(table))
     says(["squeeze"], lines(records), out=lines(table), err=told, title="20,000 lines:")
     says(["squeeze", "--to", "records"], packed(records), out=packed(table), err=told, title="20,000 records:")
     says(["pack"], lines(records), out=packed(records), title="20,000 lines:")
@@ -71,24 +67,20 @@ def most_used(records):
 
 
 def too_many():
-    """Host routes far apart, up to the one that needs the 65,537th slot."""
-    strings, records = {""}, [(0, 0, 1, 1)]
-    for address in words(362436069):
-        records.append((address, 32, 1, 2))
-        strings |= used([bits(address, 32)])
-        if len(strings) > MOST_SLOTS:
-            break
-    place = len(records) - 1
-    table = table_of({bits(address, length): hop for address, length, _, hop in records[:-1]})
-    full = len(used([bits(address, length) for address, length, _, _ in records[:-1]]))
-    says(["squeeze"], lines(records[:-1]), out=lines(table), err=figures(place, full, MOST_SLOTS, len(table)))
-    needs = "the routes need more slots than the %d that are lent" % MOST_SLOTS
-    done = "%d records were applied before it" % place
-    bad, more = lines(records[-1:]).rstrip(), [(0, 0, 1, 3)]
-    refuses(["squeeze"], packed(records + more), 9, needs,
-            "record %d (counted from 0) of standard input: %s" % (place, bad), done)
-    refuses(["squeeze"], lines(records + more), 9, needs,
-            "record %d (counted from 0), line %d of standard input: %s" % (place, place + 1, bad), done)
+    """Routes to 256 hops that use each of the 1,048,576 slots there can be, and one that needs the 1,048,577th."""
+    # All 2**17 - 1 strings of at most 16 bits and, behind each of the 2**16 longest, 14 more: one slot is left. Each /30
+    # is alone in its /28, which so keeps the default's hop: the smallest table is the routes, in the feed's order.
+    far_apart = [(top << 16, 30, 1, 2 + top % 255) for top in range(2**16)]
+    full = [(0, 0, 1, 1), *far_apart, (0xFFFF0000, 31, 1, 3)]
+    held = len(full)
+    says(["squeeze"], lines(full), out=lines(full), err=figures(held, MOST_SLOTS, MOST_SLOTS, held), title="all slots:")
+    records = [*full, (0xFFFF0002, 31, 1, 3), (0, 0, 1, 3)]
+    short, bad = "the routes need more slots than the %d that are lent" % MOST_SLOTS, "255.255.0.2/31 via 3"
+    done = "%d records were applied before it" % held
+    refuses(["squeeze"], packed(records), 9, short,
+            "record %d (counted from 0) of standard input: %s" % (held, bad), done)
+    refuses(["squeeze"], lines(records), 9, short,
+            "record %d (counted from 0), line %d of standard input: %s" % (held, held + 1, bad), done)
 
 
 def try_all():

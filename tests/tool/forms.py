@@ -25,7 +25,7 @@ SAID = [  # a line, and the record that it says
     ("action 2 default hop 0", (0, 0, 2, 0)),
     # Rules are the library's matter: what has room in a record is packed as it stands.
     ("10.0.0.1/8 via 5", (TEN + 1, 8, 1, 5)),
-    ("10.0.0.0/33 via 65", (TEN, 33, 1, 65)),
+    ("10.0.0.0/33 via 257", (TEN, 33, 1, 257)),
     ("255.255.255.255/255 via 65535", (2**32 - 1, 255, 1, 65535)),
     ("10.0.0.1/33 discard", (TEN + 1, 33, 1, 0)),
     ("action 0 0.0.0.0/0 hop 0", (0, 0, 0, 0)),
@@ -81,7 +81,7 @@ def there_and_back():
     for _ in range(1000):
         word = next_word(word)
         bytes_ += word.to_bytes(4, "big")
-    anything = [(TEN, 8, action, hop) for action in range(256) for hop in (0, 1, 64, 65, 256, 65535)]
+    anything = [(TEN, 8, action, hop) for action in range(256) for hop in (0, 1, 64, 256, 257, 65535)]
     for title, records in (("random records:", bytes(bytes_)), ("every action:", packed(anything)),
                            ("good records:", packed(record for _, record in SAID))):
         listed = [(int.from_bytes(records[k:k + 4], "big"), records[k + 4], records[k + 5],
@@ -120,7 +120,8 @@ def empty():
         says(["lookup", "--table", "10.0.0.1"], feed, out="10.0.0.1 is discarded\n")
     for arguments in (["show"], ["show", "--records"], ["pack", "--text"]):
         says(arguments)
-    says(["squeeze"], "default via 64", out="0.0.0.0/0 via 64\n", err=figures(1, 1, SLOTS, 1))
+    for hop in (64, 256):
+        says(["squeeze"], "default via %d" % hop, out="0.0.0.0/0 via %d\n" % hop, err=figures(1, 1, SLOTS, 1))
 
 
 def try_all():

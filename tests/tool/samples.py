@@ -4,6 +4,7 @@ from plain import ALL, Ledger, dotted, longest, needs
 from smallest import smallest
 
 SLOTS = 4096  # what the tool lends at first
+MOST_SLOTS = 1048576  # what a ledger may have
 
 
 def records_of(sample):

@@ -103,7 +103,7 @@ them, its bytes tell. In text, blank lines and what stands behind a # do not cou
   withdraw 10.0.0.0/8          take back exactly this prefix
   action 3 10.0.0.0/8 hop 5    any other record, field by field, as `show` prints it
 
-Hops are 0 to 64, and hop 0 discards. An address without a route is discarded, too, so a feed needs no default route.
+Hops are 0 to 256, and hop 0 discards. An address without a route is discarded, too, so a feed needs no default route.
 ";
 
 const ENDINGS: &str = "\

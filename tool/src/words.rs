@@ -56,7 +56,7 @@ impl Refusal {
             (5, _) => "an address bit behind the prefix length is set",
             (6, Call::ListLookup) => "the action is not 1, announce, and a list that is looked up has nothing else",
             (6, _) => "the action is neither 1, announce, nor 2, withdraw",
-            (7, _) => "the hop is out of range: 0 to 64 to announce, 0 to withdraw",
+            (7, _) => "the hop is out of range: 0 to 256 to announce, 0 to withdraw",
             (8, _) => "a prefix is withdrawn that is not held",
             (9, Call::Update { slots }) => return format!("the routes need more slots than the {slots} that are lent"),
             (11, _) => {

@@ -6,7 +6,7 @@ use doors::records::{Fields, ANNOUNCE, RECORD, WITHDRAW};
 /// The hop of an address without a route. It may be announced too.
 pub const DISCARD: u32 = 0;
 /// The hops that may be announced are 0 to this.
-pub const HIGHEST_HOP: u16 = 64;
+pub const HIGHEST_HOP: u16 = 256;
 
 /// For each length that a prefix may have, its highest bits.
 const MASKS: [u32; 33] = {

@@ -4,6 +4,7 @@ use super::record::DISCARD;
 use super::{refusal, Ledger, Node, NONE, ROOT};
 use doors::records::{Fields, RECORD};
 use doors::{Counted, SCRATCH_WORDS};
+use std::array::from_fn;
 
 impl Ledger {
     /// Writes the smallest table into `out`. The scratch is left zero.
@@ -28,54 +29,58 @@ impl Ledger {
     }
 }
 
-/// A set of hops: a word with bit h - 1 for hop h, and discard beside it.
+/// The words of a set of hops.
+const WORDS: usize = SCRATCH_WORDS - 1;
+
+/// A set of hops: words with bit h - 1 for hop h, counted from the first word's lowest on, and discard beside them.
 #[derive(Clone, Copy)]
 struct Hops {
-    word: u64,
+    words: [u64; WORDS],
     discard: bool,
 }
 
 impl Hops {
+    /// Each word is made by itself: to store the bit into one of four zeros was slower. Discard's bit is in no word.
     fn only(hop: u32) -> Hops {
-        match hop.checked_sub(1) {
-            Some(bit) => Hops { word: 1 << bit, discard: false },
-            None => Hops { word: 0, discard: true },
-        }
+        let bit = hop.wrapping_sub(1);
+        let word = |at| u64::from(bit / u64::BITS == at as u32) << (bit % u64::BITS);
+        Hops { words: from_fn(word), discard: hop == DISCARD }
     }
 
     fn has(self, hop: u32) -> bool {
         match hop.checked_sub(1) {
-            Some(bit) => self.word >> bit & 1 == 1,
+            Some(bit) => self.words[(bit / u64::BITS) as usize] >> (bit % u64::BITS) & 1 == 1,
             None => self.discard,
         }
     }
 
     fn least(self) -> u32 {
         if self.discard {
-            DISCARD
-        } else {
-            self.word.trailing_zeros() + 1
+            return DISCARD;
         }
+        let at = self.words.iter().position(|word| *word != 0).expect("no set is empty");
+        at as u32 * u64::BITS + self.words[at].trailing_zeros() + 1
     }
 
     fn is_empty(self) -> bool {
-        self.word == 0 && !self.discard
+        self.words.iter().fold(u64::from(self.discard), |all, word| all | word) == 0
     }
 
     fn common(self, other: Hops) -> Hops {
-        Hops { word: self.word & other.word, discard: self.discard & other.discard }
+        Hops { words: from_fn(|at| self.words[at] & other.words[at]), discard: self.discard & other.discard }
     }
 
     fn union(self, other: Hops) -> Hops {
-        Hops { word: self.word | other.word, discard: self.discard | other.discard }
+        Hops { words: from_fn(|at| self.words[at] | other.words[at]), discard: self.discard | other.discard }
     }
 
-    fn words(self) -> [u64; SCRATCH_WORDS] {
-        [self.word, u64::from(self.discard)]
+    fn scratch(self) -> [u64; SCRATCH_WORDS] {
+        let [a, b, c, d] = self.words;
+        [a, b, c, d, u64::from(self.discard)]
     }
 
-    fn of([word, discard]: [u64; SCRATCH_WORDS]) -> Hops {
-        Hops { word, discard: discard != 0 }
+    fn of([a, b, c, d, discard]: [u64; SCRATCH_WORDS]) -> Hops {
+        Hops { words: [a, b, c, d], discard: discard != 0 }
     }
 }
 
@@ -114,7 +119,7 @@ impl Sets<'_> {
                 common
             }
         };
-        self.words[at as usize] = set.words();
+        self.words[at as usize] = set.scratch();
         set
     }
 }

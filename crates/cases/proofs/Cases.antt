@@ -20,7 +20,7 @@ use Rattle.rules.proofs.Plain.{Kept, readings-sound, updated-kept, nothing-with
 use Rattle.rules.proofs.Slots.{needs-nothing}
 use Rattle.rules.proofs.Smallest.{smallest-for}
 use Rattle.cases.specs.Trie.{Trie, bare, asLedger, within, needsIn, smallestIn, AppliedIn, applyAllIn}
-use Rattle.cases.specs.Cases.{Result, Case, after, resultOf, Holds, caseA, caseC, caseG, caseHalf, caseBelow, cases}
+use Rattle.cases.specs.Cases.{Result, Case, after, resultOf, Holds, caseA, caseC, caseG, caseHalf, caseBelow, caseHighest, caseWords, cases}
 use Rattle.cases.proofs.Trie.{needs-in, table-in}
 use Rattle.cases.proofs.Updates.{imageAll, batch-in}
 
@@ -86,21 +86,34 @@ computed = refl
 pub cases-hold : Each Holds cases
 cases-hold = each-map (λ c. shown c ≡ wanted c) Holds holds cases (each-of-map shown wanted cases computed)
 
--- those that are cited by name: where in the table they stand is said here alone
+-- those that are cited by name, each by itself, so that no proof counts places in the table
 pub A-holds : Holds caseA
-A-holds = cases-hold .0
+unfolding read strayBits
+A-holds = holds caseA refl
 
 pub C-holds : Holds caseC
-C-holds = cases-hold .1 .1 .0
+unfolding read strayBits
+C-holds = holds caseC refl
 
 pub G-holds : Holds caseG
-G-holds = cases-hold .1 .1 .1 .1 .1 .1 .0
+unfolding read strayBits
+G-holds = holds caseG refl
 
 pub half-holds : Holds caseHalf
-half-holds = cases-hold .1 .1 .1 .1 .1 .1 .1 .1 .1 .1 .1 .1 .0
+unfolding read strayBits
+half-holds = holds caseHalf refl
 
 pub below-holds : Holds caseBelow
-below-holds = cases-hold .1 .1 .1 .1 .1 .1 .1 .1 .1 .1 .1 .1 .1 .1 .1 .1 .0
+unfolding read strayBits
+below-holds = holds caseBelow refl
+
+pub highest-holds : Holds caseHighest
+unfolding read strayBits
+highest-holds = holds caseHighest refl
+
+pub words-hold : Holds caseWords
+unfolding read strayBits
+words-hold = holds caseWords refl
 
 -- IN CASE A every address is discarded
 pub A-discards : (x : ℕ) → x < addresses ipv4 → hopOf ipv4 (after caseA .ledger) x ≡ discard

@@ -131,6 +131,20 @@ tableBelow = 1* via 1 ∷ []
 abbrev pub caseBelow : Case
 caseBelow = all-taken 64 2 (announces * 1 ∷ announces 0* 0 ∷ []) 2 tableBelow
 
+-- L: hop 256 is taken and written, hop 257 is refused
+abbrev pub caseHighest : Case
+caseHighest = all-taken 64 1 (announces * 256 ∷ []) 1 (* via 256 ∷ [])
+
+abbrev pub caseTooHigh : Case
+caseTooHigh = refused-with 64 7 (announces * 257 ∷ []) 0 1 []
+
+-- hops 1 and 65, which are the same bit of two words: a writer whose sets have one word is tried on it
+abbrev pub tableWords : List Entry
+tableWords = * via 1 ∷ 1* via 65 ∷ []
+
+abbrev pub caseWords : Case
+caseWords = all-taken 64 2 (announces 0* 1 ∷ announces 1* 65 ∷ []) 3 tableWords
+
 -- C's table whole, byte by byte, and C's routes as they were announced
 abbrev pub bytesC : List ℕ
 bytesC =
@@ -183,6 +197,13 @@ cases =
     ∷ refused-with 1 9 (announces 0* 0 ∷ []) 0 1 []
     -- and as it is held, it can be withdrawn, once
     ∷ refused-with 64 8 (announces 0* 0 ∷ withdraws 0* ∷ withdraws 0* ∷ []) 2 1 []
+    -- L
+    ∷ caseHighest
+    ∷ caseTooHigh
+    -- two words of a set
+    ∷ caseWords
+    -- E with the last hop of the last word and the first of another: the least is written
+    ∷ all-taken 64 2 (announces * 256 ∷ announces 1* 65 ∷ []) 2 (* via 65 ∷ 0* via 256 ∷ [])
     ∷ []
 
 -- tempting and wrong: forgetting the entries for strings that were never held

@@ -40,6 +40,6 @@ tableOf n list output = afterUpdate (updated ipv4 n nothing list .refusal) (upda
 pub record TablesIn (n : ℕ) (list output output' : List ℕ) (r : Wrote) : Type 0 where
   pub outcome : tabledOf r output' ≡ tableOf n list output
 
--- THE CALL: 4,096 slots
+-- THE CALL: a ledger of 1,024 slots
 abbrev pub Tables : List ℕ → List ℕ → List ℕ → Wrote → Type 0
 Tables = TablesIn ownSlots

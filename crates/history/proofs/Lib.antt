@@ -4,5 +4,6 @@ pub mod History
 pub mod Room
 pub mod Union
 pub mod Wrong
+pub mod WrongHops
 pub mod Doors
 pub mod WrongDoors

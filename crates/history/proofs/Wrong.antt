@@ -69,7 +69,7 @@ pub memory-of-G : (n : ℕ) → 64 ≤ n → n ≤ mostSlots → (m : Memory) (u
 memory-of-G n enough = by-update caseG G-holds refl n (omega arith) enough
 
 -- what the promise answers and leaves there
-at-case : (c : Case) (T : List Entry) → Holds c → c .result .output ≡ T
+pub at-case : (c : Case) (T : List Entry) → Holds c → c .result .output ≡ T
     → (m : Memory) (scratch output scratch' output' : List ℕ) (r : Wrote) → HoldsCase c m scratch → bytesFor T ≤ length output
     → Writes m scratch output scratch' output' r
     → Same r scratch' output' (Table (length T)) (zeros (length scratch)) (printTable ipv4 T ++ drop (bytesFor T) output)

@@ -29,20 +29,24 @@ pub const WITHDRAW: u8 = 2;
 // route is discarded.
 pub const DISCARD: u32 = 0;
 
-pub const HIGHEST_HOP: u32 = 64;
+pub const HIGHEST_HOP: u32 = 256;
 
 pub const NO_HOP: u32 = 0;
 
 pub const NO_ROUTE: u32 = DISCARD;
 
 // Slots that may be lent: at least one, and at most this many.
-pub const MOST_SLOTS: usize = 65536;
+pub const MOST_SLOTS: usize = 1048576;
 
-// The words of scratch that a slot's set takes.
-pub const SET_WORDS: usize = 2;
+// The bits of a word, the words that have one for each hop behind discard, and those of scratch that a slot's set takes: one more, for discard.
+pub const WORD_BITS: u32 = 64;
+
+pub const HOP_WORDS: usize = HIGHEST_HOP as usize / WORD_BITS as usize;
+
+pub const SET_WORDS: usize = HOP_WORDS + 1;
 
 // The fresh ledger that the daemon's table call and the program have of their own: its slots, and the words of scratch for them.
-pub const OWN_SLOTS: usize = 4096;
+pub const OWN_SLOTS: usize = 1024;
 
 pub const OWN_SCRATCH: usize = SET_WORDS * OWN_SLOTS;
 

@@ -1,4 +1,4 @@
--- THE THEOREM IN DOCUMENT 01'S WORDS: width 32, hops 0 to 64, all 4,294,967,296 addresses, every plain ledger.
+-- THE THEOREM IN DOCUMENT 01'S WORDS: width 32, hops 0 to 256, all 4,294,967,296 addresses, every plain ledger.
 use mathlib.Core.Path.{_≡_, ap}
 use mathlib.Core.List.{List}
 use mathlib.Core.Option.{none}

@@ -1,5 +1,5 @@
 -- The numbers that document 01 fixes, each in this one place.
-use Prim.Native.Nat.{ℕ, _+_, _*_, _^_, _≤_}
+use Prim.Native.Nat.{ℕ, _+_, _*_, _/_, _^_, _≤_}
 
 -- An address of IPv4 has 4 bytes. Whatever is said of records is said over the number k of an address's bytes.
 abbrev pub ipv4 : ℕ
@@ -28,7 +28,7 @@ discard = 0
 
 -- hops that may be announced, discard among them, and the bound of the theorem: every hop is below it
 abbrev pub highestHop : ℕ
-highestHop = 64
+highestHop = 256
 
 abbrev pub MayAnnounce : ℕ → Type 0
 MayAnnounce h = h ≤ highestHop
@@ -42,11 +42,11 @@ noRoute = discard
 
 -- the most slots that may be lent
 abbrev pub mostSlots : ℕ
-mostSlots = 65536
+mostSlots = 1048576
 
 -- the slots of the fresh ledger that the daemon's table call and the program have of their own
 abbrev pub ownSlots : ℕ
-ownSlots = 4096
+ownSlots = 1024
 
 -- the bytes that the program takes
 abbrev pub mostInput : ℕ
@@ -56,9 +56,16 @@ mostInput = 4096
 abbrev pub refusalMark : ℕ
 refusalMark = 255
 
--- the words of scratch that a slot's set takes, two u64, as it can have one member more than a word has bits; and those that writing asks for
+-- a set of hops: u64 words with a bit for each hop behind discard, four of them; a word more beside them for discard is what a slot's set takes of
+-- the scratch, five; and the words that writing asks for
+abbrev pub wordBits : ℕ
+wordBits = 64
+
+abbrev pub hopWords : ℕ
+hopWords = highestHop / wordBits
+
 abbrev pub setWords : ℕ
-setWords = 2
+setWords = hopWords + 1
 
 abbrev pub scratchWords : ℕ → ℕ
 scratchWords slots = setWords * slots

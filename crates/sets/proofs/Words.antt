@@ -1,5 +1,5 @@
--- How a word's digits are a set: each operation on words is one on the sets of their digits. Said over the number of digits, so that
--- nothing here knows how many hops there are.
+-- How a word's digits are a set: each operation on words is one on the sets of their digits. Said over the number of digits; proofs/Digits
+-- has the same over the number of words.
 use mathlib.Core.Path.{_≡_, refl, sym, ap, ap₂, fun-ext, _∙_}
 use mathlib.Core.Logic.{inl, inr}
 use mathlib.Core.Bool.{Bool, true, false, not, cond, _&&_, _||_}
@@ -8,7 +8,7 @@ use native.Mathlib.Omega.{arith}
 use native.Mathlib.Nat.{div-one, zero-div}
 use native.Mathlib.Numerals.{add-one, one-add}
 use lib.Dec.{eqb, eqb·zero-suc, eqb·suc-zero, eqb·suc-suc}
-use lib.Bits.{bitAnd, bitOr, and-le-l, and-shr, or-shr, and-mod, or-mod, shifted-half, shifted-even}
+use lib.Bits.{bitAnd, bitOr, and-shr, or-shr, and-mod, or-mod, shifted-half, shifted-even}
 use lib.Count.{under, trailingZeros}
 use lib.Pow.{shr-shr, shr-lt, shl-exact}
 use borrow.Author.Tests.{eqb-true, eqb-false, ne-eqb}
@@ -88,16 +88,12 @@ not-zero x =
           ]
     ]
 
-some-digit : (n x : ℕ) → x < 2 ^ n → some-below n (digits x) ≡ not (eqb x 0)
+pub some-digit : (n x : ℕ) → x < 2 ^ n → some-below n (digits x) ≡ not (eqb x 0)
 some-digit zero x l = let none : x ≡ 0 = omega arith in rw none
 some-digit (suc n) x l =
     let rest : some-below n (λ k. digits x (suc k)) ≡ not (eqb (x / 2) 0) =
     ap (some-below n) (fun-ext (higher-digit x)) ∙ some-digit n (x / 2) (shr-lt n 1 (rw add-one l)) in
     rw (lowest-digit x, rest) (not-zero x)
-
--- TWO WORDS have a digit in common exactly where their common digits are not 0.
-pub some-common : (n a b : ℕ) → a < 2 ^ n → some-below n (common (digits a) (digits b)) ≡ not (eqb (bitAnd a b) 0)
-some-common n a b fits = ap (some-below n) (sym (digits-and a b)) ∙ some-digit n (bitAnd a b) (omega (arith, and-le-l a b))
 
 -- THE LEAST DIGIT: below it there are only zeros, and in a word without a digit all are zeros.
 zeros-under : (p : Bool) (t : ℕ) → under (cond p 1 0) t ≡ cond p zero (suc t)

@@ -40,7 +40,7 @@ fn split(a: HopSet, b: HopSet) -> usize
     0
 }
 
-// The sets of the strings from a slot's string on, `left` bits before the full ones: each into its slot's word of the scratch.
+// The sets of the strings from a slot's string on, `left` bits before the full ones: each into its slot's words of the scratch.
 pub fn form_sets(
     lo: &[u32],
     hi: &[u32],

@@ -1,5 +1,5 @@
 -- THE THEOREM, once over the width w, the bound n on hops, the hop d in force above the empty string, and leaves with any
--- non-empty sets of allowed hops. Document 01's table is the case of one hop a leaf (`only`), width 32, n = 65 and d = 0.
+-- non-empty sets of allowed hops. Document 01's table is the case of one hop a leaf (`only`), width 32, n one more than the highest hop, and d = 0.
 use mathlib.Core.Path.{_≡_, sym, subst}
 use mathlib.Core.Bool.{true}
 use mathlib.Core.List.{List}

@@ -38,7 +38,7 @@ fn refused() {
     refused_everywhere(announce(0x0A000000, 33, 1));
     refused_everywhere(announce(0x0A000001, 8, 1));
     refused_everywhere(record(0x0A000000, 8, 3, 1));
-    refused_everywhere(announce(0x0A000000, 8, 65));
+    refused_everywhere(announce(0x0A000000, 8, 257));
     // A withdrawal has no place in a list that is looked up, held or not, and whatever its hop is.
     refused_everywhere(withdraw(0, 0));
     refused_everywhere(record(0, 0, 2, 1));
@@ -49,14 +49,14 @@ fn put_twice(list: &mut [u8; LIST]) {
     put(list, 0, announce(0xFFFFFFFF, 32, 1));
     put(list, 1, announce(0x80000000, 1, 2));
     put(list, 2, announce(0xFFFFFFFF, 32, 3));
-    put(list, 3, announce(0x80000000, 1, 64));
+    put(list, 3, announce(0x80000000, 1, 256));
     put(list, 4, announce(0, 32, 5));
 }
 
 // All of the list but for its last bytes, and less.
 fn answered_in_part(list: &[u8; LIST]) {
     say(
-        b"-- list lookup: 255.255.255.255/32 1, 128.0.0.0/1 2, 255.255.255.255/32 3, 128.0.0.0/1 64, 0.0.0.0/32 5\n",
+        b"-- list lookup: 255.255.255.255/32 1, 128.0.0.0/1 2, 255.255.255.255/32 3, 128.0.0.0/1 256, 0.0.0.0/32 5\n",
     );
     look_in_first(list, 0, 0);
     look_in_first(list, 7, 0xFFFFFFFF);
@@ -93,12 +93,12 @@ fn put_discards(list: &mut [u8; LIST]) {
     put(list, 1, announce(0x80000000, 1, 0));
     put(list, 2, announce(0xC0000000, 2, 2));
     put(list, 3, announce(0xC0000000, 2, 0));
-    put(list, 4, announce(0xFFFFFFFF, 32, 1));
+    put(list, 4, announce(0xFFFFFFFF, 32, 65));
 }
 
 fn discarded(list: &[u8; LIST]) {
     say(
-        b"-- list lookup: 0.0.0.0/0 64, 128.0.0.0/1 0, 192.0.0.0/2 2, 192.0.0.0/2 0, 255.255.255.255/32 1\n",
+        b"-- list lookup: 0.0.0.0/0 64, 128.0.0.0/1 0, 192.0.0.0/2 2, 192.0.0.0/2 0, 255.255.255.255/32 65\n",
     );
     look_in_first(list, 8, 0xFFFFFFFF);
     look_in_first(list, 16, 0xFFFFFFFF);

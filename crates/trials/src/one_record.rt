@@ -12,9 +12,9 @@ use telling::tried::run;
 fn first_fault(lo: &mut [u32; 65], hi: &mut [u32; 65], up: &mut [u32; 65], hop: &mut [u32; 65]) {
     say(b"-- update: the first rule that is broken gives the number\n");
     let changes = [
-        record(0x0A000001, 33, 3, 65),
-        record(0x0A000001, 8, 3, 65),
-        record(0x0A000000, 8, 3, 65),
+        record(0x0A000001, 33, 3, 257),
+        record(0x0A000001, 8, 3, 257),
+        record(0x0A000000, 8, 3, 257),
         record(0x0A000000, 8, 2, 1),
         record(0x0A000000, 8, 2, 0),
         LOOK,
@@ -30,10 +30,10 @@ fn edges_of_rules(lo: &mut [u32; 65], hi: &mut [u32; 65], up: &mut [u32; 65], ho
         announce(0xFFFFFFFF, 31, 1),
         record(0, 0, 0, 1),
         record(0, 0, 255, 1),
-        announce(0, 0, 65),
-        // 1 in the low byte of the hop, and in the high one.
+        // Too high, though the low byte alone would be a hop.
         announce(0, 0, 257),
-        announce(0, 0, 64),
+        announce(0, 0, 512),
+        announce(0, 0, 256),
         LOOK,
         announce(0, 0, 0),
         LOOK,
@@ -53,9 +53,9 @@ fn shortest_and_longest(
         announce(0, 32, 2),
         announce(0xFFFFFFFF, 32, 3),
         LOOK,
-        announce(0, 0, 4),
-        announce(0, 32, 5),
-        announce(0xFFFFFFFF, 32, 64),
+        announce(0, 0, 64),
+        announce(0, 32, 65),
+        announce(0xFFFFFFFF, 32, 256),
         LOOK,
     ];
     run(lo, hi, up, hop, &changes);

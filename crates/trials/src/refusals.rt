@@ -79,7 +79,7 @@ pub fn refusals() {
     refused_everywhere(announce(0x0A000000, 33, 1));
     refused_everywhere(announce(0x0A000001, 8, 1));
     refused_everywhere(record(0x0A000000, 8, 3, 1));
-    refused_everywhere(announce(0x0A000000, 8, 65));
+    refused_everywhere(announce(0x0A000000, 8, 257));
     // 0.0.0.0/1 is never held; once the list's second record is applied it has a slot.
     refused_everywhere(withdraw(0, 1));
     refused_everywhere(announce(0xFFFFFFFF, 32, 6));

@@ -60,9 +60,9 @@ fn filled() {
 fn come_and_go(lo: &mut [u32; 6], hi: &mut [u32; 6], up: &mut [u32; 6], hop: &mut [u32; 6]) {
     let changes = [
         LOOK,
-        announce(0, 0, 61),
-        announce(0x40000000, 2, 62),
-        announce(0xC0000000, 3, 63),
+        announce(0, 0, 254),
+        announce(0x40000000, 2, 255),
+        announce(0xC0000000, 3, 256),
         LOOK,
         withdraw(0x40000000, 2),
         withdraw(0xC0000000, 3),
@@ -93,7 +93,7 @@ fn scattered(seed: u32, links: u32, marks: u32, hops: u32)
 
 // Small words, likely to be links, marks and hops.
 fn scattered_small(seed: u32) {
-    scattered(seed, 6, 13, 70);
+    scattered(seed, 6, 13, 300);
 }
 
 // Four slots, filled to the last; one route more is refused, and taken once another has gone.
@@ -183,9 +183,9 @@ pub fn rubbish() {
     // Seeds with links that count: 0.0.0.0/0, 0.0.0.0/1 and 64.0.0.0/2 are held; slots that lead to no route, two in a row and two
     // side by side; and a ledger that leaves room for one more slot only.
     scattered_small(226);
-    scattered_small(9040);
-    scattered_small(87670);
-    scattered_small(15421);
+    scattered_small(67137);
+    scattered_small(1021628);
+    scattered_small(45680);
     own_child();
     ring_of_two();
     ring_below_slot_0();

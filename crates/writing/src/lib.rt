@@ -86,7 +86,7 @@ fn squeeze(
     Wrote::Table { count }
 }
 
-// The smallest table that forwards every address as the ledger does, as records into the output; two words of scratch a slot.
+// The smallest table that forwards every address as the ledger does, as records into the output; five words of scratch a slot.
 pub fn write(
     lo: &[u32],
     hi: &[u32],

@@ -83,8 +83,8 @@ fn j_to_m() {
         1,
         ROOM,
         &[
-            announce(0, 0, 64),
-            announce(0, 0, 65),
+            announce(0, 0, 256),
+            announce(0, 0, 257),
             WRITE,
             announce(0, 0, 0),
             WRITE,

@@ -79,12 +79,12 @@ fn child_of_two() {
     );
 }
 
-// Slots 1 to 3 are 0*, 1* and 00*. What is stored there stands for none (it would be hop 65), for a discard, and for none.
+// Slots 1 to 3 are 0*, 1* and 00*. What is stored there stands for none (it would be hop 257), for a discard, and for none.
 fn stored(title: &[u8], default: u32) {
     let mut lo = [1u32, 3, 0, 0];
     let mut hi = [2u32, 0, 0, 0];
     let mut up = [4u32, 1, 2, 3];
-    let mut hop = [default, 66, 1, HIGHEST_WORD];
+    let mut hop = [default, 258, 1, HIGHEST_WORD];
     four(title, &mut lo, &mut hi, &mut up, &mut hop);
 }
 
@@ -97,9 +97,9 @@ fn filled(mark: u32) {
     say_number(mark as u64);
     say(b"\n");
     // Rule 1 comes before rule 2.
-    write(&cells, &cells, &up, &cells, lent(25));
-    write(&cells, &cells, &up, &cells, lent(12));
+    write(&cells, &cells, &up, &cells, lent(61));
     write(&cells, &cells, &up, &cells, lent(24));
+    write(&cells, &cells, &up, &cells, lent(60));
 }
 
 // Small words, likely to be links, marks and hops.
@@ -125,10 +125,13 @@ pub fn memories() {
     own_child();
     ring_below_slot_0();
     child_of_two();
-    stored(b"the default route's hop is stored as 65, which is 64", 65);
     stored(
-        b"the default route's hop is stored as 66, which is none",
-        66,
+        b"the default route's hop is stored as 257, which is 256",
+        257,
+    );
+    stored(
+        b"the default route's hop is stored as 258, which is none",
+        258,
     );
     stored(
         b"the default route's hop is stored as 1, which is discard",

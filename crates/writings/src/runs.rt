@@ -11,7 +11,7 @@ use telling::words::next_word;
 enum Rule {
     // Twice 20 changes and a writing.
     Random,
-    // A default route and 64 routes of 6 bits, each with a hop of its own, and a writing; then a discard of 7 bits, so that all 65
+    // A default route and 256 routes of 8 bits, each with a hop of its own, and a writing; then a discard of 9 bits, so that all 257
     // hops are in one set, and a writing.
     EveryHop,
     // 0.0.0.0 with every length, and three hops in turn.
@@ -27,13 +27,13 @@ fn size_from(word: u32) -> u8 {
     size as u8
 }
 
-// 0 to 4, and 61 to 64.
+// 0, and the last and the first hop of each of a set's words: 64, 128, 192 and 256, and 1, 65, 129 and 193.
 fn hop_from(word: u32) -> u16 {
     let step = word % 9;
     if step < 5 {
-        return step as u16;
+        return (step * 64) as u16;
     }
-    (step + 56) as u16
+    ((step - 5) * 64 + 1) as u16
 }
 
 // The word's first bits; with 32 bits, one of the five addresses that are looked up after each writing.
@@ -66,13 +66,13 @@ fn random_change(place: usize, word: u32, other: u32) -> u64 {
 
 fn hop_change(place: usize) -> u64 {
     if place == 0 {
-        return announce(0, 0, 64);
+        return announce(0, 0, 256);
     }
-    if place <= 64 {
-        return announce((place - 1) as u32 * 0x04000000, 6, place as u16);
+    if place <= 256 {
+        return announce((place - 1) as u32 * 0x01000000, 8, place as u16);
     }
-    if place == 66 {
-        return announce(0xFC000000, 7, 0);
+    if place == 258 {
+        return announce(0xFF000000, 9, 0);
     }
     WRITE
 }
@@ -113,9 +113,9 @@ fn random(seed: u32, slots: usize) {
 }
 
 fn every_hop() {
-    let mut changes = [0u64; 68];
+    let mut changes = [0u64; 260];
     fill(&mut changes, Rule::EveryHop, 0);
-    trial(b"every hop", 128, MOST_ROOM, &changes);
+    trial(b"every hop", 512, MOST_ROOM, &changes);
 }
 
 fn every_length() {

@@ -17,12 +17,12 @@ use telling::tried::look_around_list;
 use writing::Wrote;
 
 // Most trials lend at most so many slots, and the words of scratch for them.
-pub const SLOTS: usize = 256;
+pub const SLOTS: usize = 512;
 
 const SCRATCH: usize = SET_WORDS * SLOTS;
 
 // The bytes of output that a trial lends: at most so many, and so many where they are to be more than enough for a few records.
-pub const MOST_ROOM: usize = 512;
+pub const MOST_ROOM: usize = 2048;
 
 pub const ROOM: usize = 64;
 

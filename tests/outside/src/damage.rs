@@ -26,7 +26,7 @@ fn damage_record(record: &mut [u8; RECORD], chance: &mut Chance) {
         0 => fields.length = *chance.pick(&[32, 33, 34, 128, 255]),
         1 => fields.address |= 1 << chance.below(32),
         2 => fields.action = *chance.pick(&[0, 1, 2, 3, 4, 255]),
-        3 => fields.hop = *chance.pick(&[0, 1, 64, 65, 256, 257, 0xFFFF]),
+        3 => fields.hop = *chance.pick(&[0, 1, 64, 65, 255, 256, 257, 258, 320, 512, 0x8000, 0xFFFF]),
         4 => (fields.action, fields.hop) = (WITHDRAW, 0),
         _ => fields = Fields::of((u64::from_be_bytes(*record) ^ (1 << chance.below(64))).to_be_bytes()),
     }

@@ -1,8 +1,11 @@
 //! Random feeds of valid records.
 
-use crate::plain::{Prefix, DISCARD, HIGHEST_HOP, WIDTH};
+use crate::plain::{self, Ledger, Prefix, DISCARD, HIGHEST_HOP, WIDTH};
 use chance::Chance;
 use doors::records::Fields;
+
+/// The hops of one of the words that a set lies in: 1 to this in the first word, and so on.
+pub const WORD_HOPS: u16 = 64;
 
 /// Where the next records of a feed come from. Routes come and go within a few blocks of addresses and with few hops,
 /// so that neighbours share hops, routes cover each other and tables compress.
@@ -95,12 +98,40 @@ fn any_block(spread: u8, chance: &mut Chance) -> Prefix {
     Prefix::of(chance.bits() as u32, length)
 }
 
-/// One hop is as likely as another, but for discard, which comes more often.
-fn any_hop(chance: &mut Chance) -> u16 {
+/// Any hop, but often discard or the first or last hop of a word, so that hops meet which have the same place in two
+/// words, and neighbours across two words.
+pub fn any_hop(chance: &mut Chance) -> u16 {
     if chance.happens(0.1) {
         DISCARD
+    } else if chance.happens(0.5) {
+        let word = chance.below(u64::from(HIGHEST_HOP / WORD_HOPS)) as u16;
+        word * WORD_HOPS + *chance.pick(&[1, WORD_HOPS])
     } else {
         1 + chance.below(u64::from(HIGHEST_HOP)) as u16
+    }
+}
+
+/// Announcements that need all of so many slots, and one that would need one slot more. They are of long prefixes
+/// anywhere, up to the first without room; that one is shortened until it has room, and just before that it is one slot
+/// too long.
+pub fn filling(slots: usize, chance: &mut Chance) -> (Vec<Fields>, Fields) {
+    let feeder = Feeder::scattered(chance);
+    let (mut ledger, mut list) = (Ledger::default(), Vec::new());
+    loop {
+        let (address, hop) = (chance.bits() as u32, feeder.hop(chance));
+        let longest = WIDTH - chance.below(8) as u8;
+        let mut refused = None;
+        for length in (0..=longest).rev() {
+            let record = Prefix::of(address, length).announced(hop);
+            if plain::update(&mut ledger, slots, &record.bytes()).number == 0 {
+                list.push(record);
+                break;
+            }
+            refused = Some(record);
+        }
+        if let Some(refused) = refused {
+            return (list, refused);
+        }
     }
 }
 

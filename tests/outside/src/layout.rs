@@ -58,7 +58,7 @@ fn child(memory: &Memory, slot: usize, bit: bool) -> Option<usize> {
 }
 
 /// Stored is the hop and 1; a number that stands for no hop that may be announced is none.
-fn stored_hop(stored: u32) -> Option<u16> {
+pub fn stored_hop(stored: u32) -> Option<u16> {
     let hop = u16::try_from(stored.checked_sub(1)?).ok()?;
     (hop <= HIGHEST_HOP).then_some(hop)
 }
@@ -103,8 +103,8 @@ fn untidy_chain(memory: &Memory, free: &BTreeSet<usize>) -> Option<String> {
     while left.remove(&slot) {
         slot = named(memory.lo[slot], slot + 1);
     }
-    if !left.is_empty() {
-        Some(format!("the chain comes to slot {slot} and leaves out {left:?}"))
+    if let Some(first) = left.first() {
+        Some(format!("the chain comes to slot {slot} and leaves out {} slots, first {first}", left.len()))
     } else if slot < memory.up.len() {
         Some(format!("the chain has every free slot and goes on to slot {slot}"))
     } else {

@@ -2,7 +2,7 @@
 //! damages what the library answered and left before anything is compared; so it stands for a library that does the job
 //! wrongly.
 
-use crate::feeds::bytes;
+use crate::feeds::{bytes, WORD_HOPS};
 use crate::layout;
 use crate::plain::{Prefix, DISCARD, HIGHEST_HOP};
 use doors::records::{Fields, RECORD};
@@ -50,6 +50,10 @@ pub enum Fault {
     Output,
     /// Writing copies the ledger out.
     Copy,
+    /// Writing takes hops that have the same place in two words of a set for one.
+    OneWord,
+    /// Writing looks for a set's least hop in the last word first.
+    LastWordFirst,
     /// 11 comes with a count that is one too low.
     Needed,
     /// A refused writing changes the output.
@@ -81,6 +85,8 @@ impl Fault {
             Fault::BytesBehind => "bytes-behind",
             Fault::Output => "output",
             Fault::Copy => "copy",
+            Fault::OneWord => "one-word",
+            Fault::LastWordFirst => "last-word-first",
             Fault::Needed => "needed",
             Fault::RefusedOutput => "refused-output",
             Fault::Scratch => "scratch",
@@ -124,6 +130,8 @@ impl Ours {
         let before = output.to_vec();
         let answer = match fault {
             Fault::HidesNothing => without_discards(memory).write(scratch, output),
+            Fault::OneWord => write_by_words(|_| 0, memory, scratch, output),
+            Fault::LastWordFirst => write_by_words(|word| LAST_WORD - word, memory, scratch, output),
             _ => memory.write(scratch, output),
         };
         match (fault, answer.number) {
@@ -155,6 +163,8 @@ impl Ours {
 
 const ALWAYS_ONE: Found = Found { number: 0, hop: 1, place: 0 };
 
+const LAST_WORD: u16 = HIGHEST_HOP / WORD_HOPS - 1;
+
 fn damage_update(fault: Fault, before: &Memory, memory: &mut Memory, list: &[u8], answer: Counted) -> Counted {
     match fault {
         Fault::Count => return Counted { count: answer.count + 1, ..answer },
@@ -181,7 +191,7 @@ fn damage_written(fault: Fault, before: &[u8], output: &mut [u8], answer: Counte
     let end = if answer.number == 0 { RECORD * answer.count as usize } else { 0 };
     let counted = |count| Counted { count, ..answer };
     match (fault, answer.number) {
-        (Fault::Hop, 0) if end > 0 => output[end - 1] = output[end - 1] % HIGHEST_HOP as u8 + 1,
+        (Fault::Hop, 0) if end > 0 => renumber(&mut output[end - RECORD..end], |hop| hop % HIGHEST_HOP + 1),
         (Fault::Drop, 0) if end > 0 => {
             output[end - RECORD..end].copy_from_slice(&before[end - RECORD..end]);
             return counted(answer.count - 1);
@@ -215,6 +225,32 @@ fn without_discards(memory: &Memory) -> Memory {
     let mut memory = memory.clone();
     memory.hop.iter_mut().filter(|stored| **stored == u32::from(DISCARD) + 1).for_each(|stored| *stored = 0);
     memory
+}
+
+/// Writing with hops in other words than theirs: they are moved before it, and those that it wrote are moved once more
+/// behind it, which takes them back where two words changed places.
+fn write_by_words(word: impl Fn(u16) -> u16, memory: &Memory, scratch: &mut [u64], output: &mut [u8]) -> Counted {
+    let moved = |hop: u16| match hop.checked_sub(1) {
+        Some(place) => word(place / WORD_HOPS) * WORD_HOPS + place % WORD_HOPS + 1,
+        None => DISCARD,
+    };
+    let mut memory = memory.clone();
+    for stored in &mut memory.hop {
+        *stored = layout::stored_hop(*stored).map_or(0, |hop| u32::from(moved(hop)) + 1);
+    }
+    let answer = memory.write(scratch, output);
+    if answer.number == 0 {
+        renumber(&mut output[..RECORD * answer.count as usize], moved);
+    }
+    answer
+}
+
+/// Gives the records of a list other hops.
+fn renumber(list: &mut [u8], other: impl Fn(u16) -> u16) {
+    for record in list.as_chunks_mut::<RECORD>().0 {
+        let fields = Fields::of(*record);
+        *record = Fields { hop: other(fields.hop), ..fields }.bytes();
+    }
 }
 
 /// A writer that copies the ledger out, in the order of a table; it writes what the output has room for.

@@ -86,7 +86,7 @@ fn write(trial: &mut Trial, chance: &mut Chance) {
     let words = if chance.happens(0.9) {
         asked
     } else {
-        *chance.pick(&[0, slots, asked.saturating_sub(1), asked + 1, 2 * asked])
+        *chance.pick(&[0, slots, 2 * slots, asked - slots, asked.saturating_sub(1), asked + 1, 2 * asked])
     };
     let scratch: Vec<u64> =
         if chance.happens(0.3) { vec![0; words] } else { (0..words).map(|_| chance.bits()).collect() };

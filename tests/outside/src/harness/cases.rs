@@ -1,5 +1,5 @@
-//! Document 01's own cases, by the letters that it gives them and as item 2 of document 02 has them, and the other
-//! examples in the documents. Each goes through the plain program too, so that is held to the documents as well.
+//! Document 01's own cases, by the letters that it gives them and as items 2 and 3 of document 02 have them, and the
+//! other examples in the documents. Each goes through the plain program too, so that is held to the documents as well.
 
 use super::{Harness, Trial, CASES};
 use crate::feeds::bytes;
@@ -30,8 +30,8 @@ const TABLE: &[Case] = &[
     Case("J", 33, "* 1, 255.255.255.255/32 2", (0, 2), "* 1, 255.255.255.255/32 2"),
     Case("J in 32 slots", 32, "* 1, 255.255.255.255/32 2", (9, 1), "* 1"),
     Case("K", ENOUGH, "withdraw *", (8, 0), ""),
-    Case("L, taken", ENOUGH, "* 64", (0, 1), "* 64"),
-    Case("L, refused", ENOUGH, "* 65", (7, 0), ""),
+    Case("L, taken", ENOUGH, "* 256", (0, 1), "* 256"),
+    Case("L, refused", ENOUGH, "* 257", (7, 0), ""),
     Case("L, discard", ENOUGH, "* 0", (0, 1), ""),
     Case("M, taken", ENOUGH, "0.0.0.0/32 1", (0, 1), "0.0.0.0/32 1"),
     Case("M, refused", ENOUGH, "0.0.0.0/33 1", (4, 0), ""),
@@ -49,6 +49,16 @@ const TABLE: &[Case] = &[
     Case("discard replaces a hop", ENOUGH, "* 1, 0* 2, 0* 0", (0, 3), "1* 1"),
     Case("discard is withdrawn", ENOUGH, "* 1, 0* 0, withdraw 0*", (0, 3), "* 1"),
     Case("discard needs its slots", 8, "10.0.0.0/8 0", (9, 0), ""),
+    Case("C with hops of three words", 6, "* 64, 00* 129, 10* 129, 11* 256", (0, 4), "* 129, 01* 64, 11* 256"),
+    Case("E across two words", ENOUGH, "* 193, 1* 192", (0, 2), "* 192, 0* 193"),
+    Case("hops with the same place in two words", ENOUGH, "* 1, 0* 65, 1* 129", (0, 3), "* 65, 1* 129"),
+    Case(
+        "a set with a hop of each word",
+        ENOUGH,
+        "* 65, 000* 256, 001* 192, 010* 128, 011* 64",
+        (0, 5),
+        "* 64, 00* 192, 000* 256, 010* 128, 1* 65",
+    ),
 ];
 
 pub fn all(harness: &mut Harness) {

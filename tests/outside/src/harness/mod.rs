@@ -80,6 +80,8 @@ pub const PROGRAM: Program = Program {
         Fault::BytesBehind,
         Fault::Output,
         Fault::Copy,
+        Fault::OneWord,
+        Fault::LastWordFirst,
         Fault::Needed,
         Fault::RefusedOutput,
         Fault::Scratch,
@@ -153,6 +155,7 @@ fn body(options: &Options, verdict: &mut Verdict) -> String {
     large::full_memory(&mut harness, &mut chance);
     large::long_list(&mut harness, &mut chance);
     lists::long_list(&mut harness, &mut chance);
+    table::full(&mut harness, &mut chance);
     for round in 0..options.rounds {
         any::history(round, &mut harness, &mut chance);
         any::one_by_one(round, &mut harness, &mut chance);
@@ -160,6 +163,11 @@ fn body(options: &Options, verdict: &mut Verdict) -> String {
         shapes::any_lengths(round, &mut harness, &mut chance);
         lists::lookups(round, &mut harness, &mut chance);
         table::tables(round, &mut harness, &mut chance);
+    }
+    // These take their time, and a planted fault is found without them.
+    if options.ours.fault.is_none() {
+        shapes::most_slots(&mut harness, &mut chance);
+        large::most_slots(&mut harness, &mut chance);
     }
     harness.check_reached();
     harness.summary()

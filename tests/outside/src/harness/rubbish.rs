@@ -2,8 +2,8 @@
 //! it holds a ledger; every call has to do to that what document 01 says.
 
 use super::{any, Harness, Trial};
-use crate::feeds::{bytes, Feeder};
-use crate::plain::{DISCARD, HIGHEST_HOP, WIDTH};
+use crate::feeds::{any_hop, bytes, Feeder};
+use crate::plain::{HIGHEST_HOP, WIDTH};
 use chance::Chance;
 use doors::Memory;
 
@@ -50,18 +50,21 @@ fn ones(slots: usize, _: &mut Chance) -> Memory {
     Memory { lo: words.clone(), hi: words.clone(), up: words.clone(), hop: words }
 }
 
-/// Words that could be links, marks and hops, and some just outside their range. A hop is stored with 1 added, and a
-/// held discard is more frequent than chance alone would make it.
+/// Words that could be links, marks and hops, and some just outside their range.
 fn small_words(slots: usize, chance: &mut Chance) -> Memory {
     let mut below = |n: usize| (0..slots).map(|_| chance.below(n as u64) as u32).collect();
-    let mut memory = Memory {
-        lo: below(slots + 2),
-        hi: below(slots + 2),
-        up: below(2 * slots + 3),
-        hop: below(usize::from(HIGHEST_HOP) + 4),
-    };
-    memory.hop.iter_mut().filter(|_| chance.happens(0.1)).for_each(|hop| *hop = u32::from(DISCARD) + 1);
-    memory
+    let (lo, hi, up) = (below(slots + 2), below(slots + 2), below(2 * slots + 3));
+    Memory { lo, hi, up, hop: (0..slots).map(|_| any_stored(chance)).collect() }
+}
+
+/// A hop is stored with 1 added; 0 stands for none, and so do the numbers behind the last hop's.
+fn any_stored(chance: &mut Chance) -> u32 {
+    let [hop, last] = [any_hop(chance), HIGHEST_HOP].map(|hop| u32::from(hop) + 1);
+    if chance.happens(0.8) {
+        hop
+    } else {
+        *chance.pick(&[0, last, last + 1, last + 2])
+    }
 }
 
 /// Small words in which most slots are somebody's child: a tree, with parts that nothing leads to, cycles, links and

@@ -6,13 +6,12 @@ use crate::plain::SCRATCH_WORDS;
 use chance::Chance;
 use doors::Memory;
 
-/// No slot, the most slots and one more, and each slice in turn shorter or longer than the others; with each, scratch
-/// of other lengths.
+/// No slot and some, and each slice in turn shorter or longer than the others; with each, scratch of other lengths.
 pub fn odd_lengths(harness: &mut Harness, chance: &mut Chance) {
-    for slots in [0, 1, 2, 33, MOST_SLOTS, MOST_SLOTS + 1] {
+    for slots in [0, 1, 2, 33] {
         calls([slots; 4], "all alike".to_string(), harness, chance);
     }
-    for slots in [1, 2, 33, MOST_SLOTS] {
+    for slots in [1, 2, 33] {
         for slice in 0..4 {
             for other in [0, slots - 1, slots + 1] {
                 let mut lengths = [slots; 4];
@@ -20,6 +19,13 @@ pub fn odd_lengths(harness: &mut Harness, chance: &mut Chance) {
                 calls(lengths, format!("{lengths:?}"), harness, chance);
             }
         }
+    }
+}
+
+/// The most slots, and one more.
+pub fn most_slots(harness: &mut Harness, chance: &mut Chance) {
+    for slots in [MOST_SLOTS, MOST_SLOTS + 1] {
+        calls([slots; 4], "all alike".to_string(), harness, chance);
     }
 }
 
@@ -43,7 +49,8 @@ fn calls(lengths: [usize; 4], name: String, harness: &mut Harness, chance: &mut 
     trial.update(&Feeder::new(chance).record(chance).bytes());
     trial.lookups(&[chance.bits() as u32]);
     let asked = SCRATCH_WORDS * slots;
-    for words in [asked, 0, slots, asked.saturating_sub(1), asked + 1] {
+    let fewer = (0..SCRATCH_WORDS).map(|words| words * slots);
+    for words in fewer.chain([asked.saturating_sub(1), asked, asked + 1]) {
         let scratch: Vec<u64> = (0..words).map(|_| chance.bits()).collect();
         trial.write(&scratch, &noise(24, chance));
     }

@@ -2,11 +2,12 @@
 
 use super::any::{any_list, room_for};
 use super::{Call, Harness};
-use crate::feeds::{noise, Feeder};
+use crate::feeds::{bytes, filling, noise, Feeder};
 use crate::plain::{self, Prefix, TABLE_SLOTS, WIDTH};
 use crate::show;
 use crate::verdict::Check;
 use chance::Chance;
+use doors::records::RECORD;
 
 /// Its number and count.
 pub const ANSWER: Check = "table call's answer";
@@ -20,10 +21,16 @@ pub fn tables(round: u64, harness: &mut Harness, chance: &mut Chance) {
         list.extend(any_list(&mut feeder, chance));
         table(round, &list, harness, chance);
     }
-    // The plain program takes its time over these, so they come less often.
-    if round % 4 == 0 {
-        table(round, &crowded(chance), harness, chance);
-    }
+    table(round, &crowded(chance), harness, chance);
+}
+
+/// A list that needs all slots of the call's own ledger, and then one slot more, once a run. An output as long as the
+/// list always has room.
+pub fn full(harness: &mut Harness, chance: &mut Chance) {
+    let (mut list, refused) = filling(TABLE_SLOTS, chance);
+    table_into(0, &bytes(&list), &noise(RECORD * list.len(), chance), harness);
+    list.push(refused);
+    table_into(0, &bytes(&list), &noise(RECORD * list.len(), chance), harness);
 }
 
 /// The start of a list: every other one announces a default route.
@@ -51,13 +58,16 @@ fn table(round: u64, list: &[u8], harness: &mut Harness, chance: &mut Chance) {
     let asked = plain::table(list, &mut []);
     let records = if matches!(asked.number, 0 | 11) { asked.count as usize } else { list.len() };
     for room in [0, room_for(records, chance)] {
-        let output = noise(room, chance);
-        let (mut expected_output, mut output_left) = (output.clone(), output);
-        let expected = plain::table(list, &mut expected_output);
-        let came = harness.ours.table(list, &mut output_left);
-        harness.note(Call::Table, came.number);
-        let tried = || format!("round {round}: table of {} into {room} bytes", show::list(list));
-        harness.verdict.equal(ANSWER, &expected, &came, tried);
-        harness.verdict.alike(OUTPUT, &expected_output[..], &output_left[..], tried, show::first_difference);
+        table_into(round, list, &noise(room, chance), harness);
     }
+}
+
+fn table_into(round: u64, list: &[u8], output: &[u8], harness: &mut Harness) {
+    let tried = || format!("round {round}: table of {} into {} bytes", show::list(list), output.len());
+    let (mut expected_output, mut output_left) = (output.to_vec(), output.to_vec());
+    let expected = plain::table(list, &mut expected_output);
+    let came = harness.ours.table(list, &mut output_left);
+    harness.note(Call::Table, came.number);
+    harness.verdict.equal(ANSWER, &expected, &came, tried);
+    harness.verdict.alike(OUTPUT, &expected_output[..], &output_left[..], tried, show::first_difference);
 }

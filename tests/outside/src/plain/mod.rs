@@ -18,9 +18,9 @@ pub const WIDTH: u8 = 32;
 /// The hop of an address without a route. It may be announced, and then it is held like any other.
 pub const DISCARD: u16 = 0;
 /// The hops that may be announced are 0 to this.
-pub const HIGHEST_HOP: u16 = 64;
-pub const MOST_SLOTS: usize = 65_536;
+pub const HIGHEST_HOP: u16 = 256;
+pub const MOST_SLOTS: usize = 1_048_576;
 /// The words of scratch that writing is lent for each slot.
-pub const SCRATCH_WORDS: usize = 2;
+pub const SCRATCH_WORDS: usize = 5;
 /// The slots of the ledger that the daemon's table call makes for itself.
-pub const TABLE_SLOTS: usize = 4_096;
+pub const TABLE_SLOTS: usize = 1_024;

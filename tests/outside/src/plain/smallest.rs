@@ -3,22 +3,12 @@
 
 use super::{Ledger, Prefix, DISCARD};
 use doors::records::Fields;
+use std::collections::BTreeSet;
 
-/// A set of hops: bit h stands for hop h.
-type Hops = u128;
-
-fn only(hop: u16) -> Hops {
-    1 << hop
-}
-
-fn least(set: Hops) -> u16 {
-    set.trailing_zeros() as u16
-}
-
-/// A string with its set and, where they may differ from it, its two children.
+/// A string with its set of hops and, where they may differ from it, its two children.
 struct Node {
     string: Prefix,
-    set: Hops,
+    set: BTreeSet<u16>,
     children: Vec<Node>,
 }
 
@@ -27,21 +17,21 @@ struct Node {
 fn node(ledger: &Ledger, string: Prefix, above: u16) -> Node {
     let hop = ledger.held(string).unwrap_or(above);
     if !ledger.holds_below(string) {
-        return Node { string, set: only(hop), children: Vec::new() };
+        return Node { string, set: BTreeSet::from([hop]), children: Vec::new() };
     }
     let child = |bit| node(ledger, string.child(bit).expect("something is held below"), hop);
     let (left, right) = (child(false), child(true));
-    let common = left.set & right.set;
-    let set = if common != 0 { common } else { left.set | right.set };
+    let common = &left.set & &right.set;
+    let set = if common.is_empty() { &left.set | &right.set } else { common };
     Node { string, set, children: vec![left, right] }
 }
 
 /// Going down: no entry if the hop in force above is in the set, otherwise one with the least member.
 fn give_entries(node: &Node, in_force: u16, table: &mut Vec<Fields>) {
-    let hop = if node.set & only(in_force) != 0 {
+    let hop = if node.set.contains(&in_force) {
         in_force
     } else {
-        let hop = least(node.set);
+        let hop = *node.set.first().expect("no set is empty");
         table.push(node.string.announced(hop));
         hop
     };

@@ -3,14 +3,17 @@
 //! kept. This paints rows of hops and uses neither strings, nor sets, nor longest match.
 
 use super::{one, ALIKE, LEAST, ROW};
-use crate::feeds::bytes;
-use crate::plain::{Prefix, WIDTH};
+use crate::feeds::{bytes, WORD_HOPS};
+use crate::plain::{Prefix, DISCARD, HIGHEST_HOP, WIDTH};
 use crate::program::Options;
 use crate::show;
 use crate::verdict::Verdict;
 use chance::Chance;
 use doors::records::RECORD;
 use std::collections::BTreeMap;
+
+/// The hops that are tried; rows and tables have their places here. Two have the same place in two words of a set.
+const HOPS: [u16; 4] = [DISCARD, 1, WORD_HOPS + 1, HIGHEST_HOP];
 
 /// The hops of all addresses of a small width, two bits for each, the first address lowest.
 type Row = usize;
@@ -23,7 +26,7 @@ type Table = Vec<Option<u8>>;
 
 struct Width {
     bits: u8,
-    /// An entry has one of the hops 0 to this.
+    /// An entry has one of the hops up to this place.
     highest: u8,
     /// The prefixes, shortest first, and which cells of a row each paints (1 in each of these cells).
     prefixes: Vec<(Prefix, Row)>,
@@ -33,7 +36,6 @@ struct Width {
 
 impl Width {
     fn new(bits: u8, highest: u8) -> Width {
-        assert!(highest < 4, "a cell of a row has two bits");
         let cells = 1 << bits;
         let mut width = Width { bits, highest, prefixes: Vec::new(), least: vec![None; 1 << (2 * cells)] };
         for length in 0..=bits {
@@ -78,7 +80,7 @@ impl Width {
     }
 
     fn list(&self, table: &Table) -> Vec<u8> {
-        let announced = |(prefix, _, hop): (Prefix, Row, u8)| prefix.announced(u16::from(hop));
+        let announced = |(prefix, _, hop): (Prefix, Row, u8)| prefix.announced(HOPS[usize::from(hop)]);
         bytes(&self.entries(table).map(announced).collect::<Vec<_>>())
     }
 
@@ -123,8 +125,8 @@ fn paint(row: Row, cells: Row, hop: u8) -> Row {
 /// What our writing made of the first table of each forwarding.
 type Seen = BTreeMap<Row, Vec<u8>>;
 
-/// At width 2 with hops 0 to 3 every table is written, with a default route and without; at width 3 with hops 0 to 2
-/// every forwarding is, and random tables.
+/// At width 2 with four hops every table is written, with a default route and without; at width 3 with three hops every
+/// forwarding is, and random tables.
 pub fn small_widths(options: &Options, chance: &mut Chance, verdict: &mut Verdict) -> String {
     let two = Width::new(2, 3);
     let mut seen_two = Seen::new();
@@ -153,8 +155,9 @@ fn compare(width: &Width, table: &Table, options: &Options, seen: &mut Seen, ver
     verdict.equal(LEAST, &least, &(came.len() / RECORD), tried);
 
     let cells = 0..1 << width.bits;
-    let hop = |cell| options.ours.lookup_list(&came, width.address(cell)).hop as usize;
-    verdict.equal(ROW, &row, &cells.map(|cell| hop(cell) << (2 * cell)).sum(), tried);
+    let painted: Vec<u32> = cells.clone().map(|cell| u32::from(HOPS[row >> (2 * cell) & 3])).collect();
+    let found = cells.map(|cell| options.ours.lookup_list(&came, width.address(cell)).hop).collect();
+    verdict.equal(ROW, &painted, &found, tried);
 
     let first = seen.entry(row).or_insert_with(|| came.clone());
     verdict.alike(ALIKE, &*first, &came, tried, |first, came| show::first_difference(first, came));

@@ -53,6 +53,8 @@ pub const PROGRAM: Program = Program {
         Fault::BytesBehind,
         Fault::Output,
         Fault::Copy,
+        Fault::OneWord,
+        Fault::LastWordFirst,
     ],
     rounds: 4000,
     body,
