@@ -1,5 +1,7 @@
 // Answers as a caller in C gets them: a struct by value, with document 01's number, 0 where nothing was refused, and the values
 // beside it.
+#![tactic(auto)]
+
 ghost use Rattle.answers.specs.Answers.{FoundSo, UpdatedSo, WroteSo};
 
 use ledger::Updated;
@@ -8,7 +10,7 @@ use writing::Wrote;
 
 // A lookup: the hop, 0 for no route and beside a refusal; the place of the first bad record.
 #[repr(C)]
-#[derive(Drop)]
+#[derive(Clone, Copy)]
 pub struct FoundAnswer {
     pub number: u32,
     pub hop: u32,
@@ -17,7 +19,7 @@ pub struct FoundAnswer {
 
 // An update, or a writing: the count that document 01 gives beside the number.
 #[repr(C)]
-#[derive(Drop)]
+#[derive(Clone, Copy)]
 pub struct CountAnswer {
     pub number: u32,
     pub count: u64,

@@ -1,4 +1,6 @@
 // The C door: the two calls that are offered to the forwarding daemon. include/arvandish.h is its manual.
+#![tactic(auto)]
+
 ghost use Rattle.arvandish.specs.Promise.{LooksUpForC, TablesForC};
 
 use answers::{CountAnswer, FoundAnswer};

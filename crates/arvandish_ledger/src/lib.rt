@@ -1,5 +1,7 @@
 // The ledger door: update, lookup and writing on lent slices, for our tool, tests and benchmarks. include/arvandish_ledger.h is its
 // manual. Each is the call of the same name, its answer told as a struct.
+#![tactic(auto)]
+
 ghost use Rattle.memory.specs.Layout.{memory_of};
 ghost use Rattle.arvandish_ledger.specs.Promise.{UpdatesToC, LooksUpToC, WritesToC};
 

@@ -1,5 +1,7 @@
 // Changing lent memory: a route is set or removed, and what it no longer needs is freed. Any memory will do; in memory made from
 // zeros by these functions each costs by the path's length alone until it is full, as the chain has every free slot.
+#![tactic(auto)]
+
 ghost use Rattle.std.specs.Prelude.{◌≡◌, true, false, ◌+◌, ◌-◌, ◌<◌, ◌≤◌, length};
 ghost use Rattle.theory.specs.Bits.{prefix_of};
 ghost use Rattle.memory.specs.Path.{path_bit, path_bits};

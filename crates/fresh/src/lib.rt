@@ -1,5 +1,7 @@
 // From an update list to the smallest table, in one call over a fresh ledger of the call's own: what the daemon is offered, and what
 // the program does inside.
+#![tactic(auto)]
+
 ghost use Rattle.memory.specs.Layout.{memory_of, slots};
 ghost use Rattle.fresh.specs.Promise.{TablesIn, Tables};
 ghost use Rattle.fresh.specs.Steps.{Fresh};

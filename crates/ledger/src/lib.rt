@@ -1,4 +1,6 @@
 // The calls on a ledger in lent memory: update and lookup. Every slice and every list is taken; each call checks for itself.
+#![tactic(auto)]
+
 ghost use Rattle.std.specs.Prelude.{true, ◌+◌, take, drop};
 ghost use Rattle.rules.specs.Numbers.{ipv4, record_bytes};
 ghost use Rattle.rules.specs.Records.{read, update};
@@ -13,7 +15,7 @@ use numbers::{BAD_LIST_LENGTH, LENGTHS, NO_SLOTS, NOT_HELD, RECORD, WIDTH};
 use records::Record;
 
 // All records were applied, so many; or the one behind the first `count` was refused, or the whole call, by its number.
-#[derive(Drop)]
+#[derive(Clone, Copy)]
 pub enum Updated {
     Complete { count: usize },
     Refused { number: u32, count: usize },

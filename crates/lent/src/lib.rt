@@ -1,4 +1,6 @@
 // The rules that every call on lent slices asks first: 1, slices that make a memory; 2, a memory that holds a ledger.
+#![tactic(auto)]
+
 ghost use Rattle.memory.specs.Layout.{memory_of};
 ghost use Rattle.lent.specs.Lent.{FaultOf};
 

@@ -1,4 +1,6 @@
 // Lookup in a record list, in one pass and constant work for each record.
+#![tactic(auto)]
+
 ghost use Rattle.lists.specs.Promise.{LooksUpList};
 ghost use Rattle.lists.specs.Best.{CanCompare, Follows};
 
@@ -6,14 +8,14 @@ use numbers::{BAD_ACTION, BAD_LIST_LENGTH, LENGTHS, NO_ROUTE, RECORD};
 use records::Record;
 
 // The hop of an address, 0 for no route; or the number of a refusal, and the place of the first bad record.
-#[derive(Drop)]
+#[derive(Clone, Copy)]
 pub enum Found {
     Hop { hop: u32 },
     Refused { number: u32, place: usize },
 }
 
 // The best match so far: its length and 1, or 0 where there is none, and its hop.
-#[derive(Drop)]
+#[derive(Clone, Copy)]
 struct Best {
     level: usize,
     hop: u32,

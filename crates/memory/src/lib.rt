@@ -1,5 +1,7 @@
 // Reading lent memory as a ledger: a child, the slot of a string, longest match. docs/LAYOUT.md has the layout. Nothing here
 // knows how long an address is: a caller says how many bits of a path it walks.
+#![tactic(auto)]
+
 ghost use Rattle.std.specs.Prelude.{◌≡◌, ◌<◌, ◌≤◌, length};
 ghost use Rattle.theory.specs.Bits.{front, prefix_of};
 ghost use Rattle.theory.specs.Ledger.{is_held, or_else, longest};
@@ -11,7 +13,7 @@ ghost use Rattle.memory.specs.Reach.{Reaches};
 use numbers::{HIGHEST_HOP, NO_ROUTE};
 
 // The bits of an address, the first one highest: 64 in `high`, the next 64 in `low`.
-#[derive(Drop)]
+#[derive(Clone, Copy)]
 pub struct Path {
     pub high: u64,
     pub low: u64,
@@ -72,7 +74,7 @@ pub fn child_of(lo: &[u32], hi: &[u32], up: &[u32], slot: usize, right: bool) ->
 }
 
 // How far a path has slots: the last one, and how many of the path's bits lead to it.
-#[derive(Drop)]
+#[derive(Clone, Copy)]
 pub struct Met {
     pub slot: usize,
     pub depth: usize,

@@ -1,5 +1,6 @@
 // The numbers of document 01 that code uses, each in this one place; crates/rules/specs/Numbers.antt is the same for the statements.
 // A contract that cites one of those is proved only if the two agree.
+#![tactic(auto)]
 
 // An address has this many bytes, and so many bits; a prefix has at most as many.
 pub const ADDRESS: usize = 4;

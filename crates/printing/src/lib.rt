@@ -1,5 +1,7 @@
 // One record out: the announcement of a path's first bits is put into a lent output; and a bit of a path is set, on the way down
 // to it. Nothing here knows how long an address is: a caller says how many bytes it has.
+#![tactic(auto)]
+
 ghost use Rattle.std.specs.Prelude.{◌≡◌, ◌<◌};
 ghost use Rattle.theory.specs.Bits.{prefix_of};
 ghost use Rattle.rules.specs.Records.{print, announces};

@@ -1,4 +1,6 @@
 // What the program writes for what it reads, on slices: the smallest table, or one record that tells the refusal.
+#![tactic(auto)]
+
 ghost use Rattle.std.specs.Prelude.{◌≤◌, length};
 ghost use Rattle.rules.specs.Numbers.{ipv4, record_bytes};
 ghost use Rattle.program.specs.Promise.{Answers, Refuses};

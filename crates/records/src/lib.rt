@@ -1,4 +1,6 @@
 // One record in: its fields as they stand in its 8 bytes, judged by the rules 4 to 7.
+#![tactic(auto)]
+
 ghost use Rattle.std.specs.Prelude.{◌≡◌, ◌+◌, ◌<◌, ◌≤◌, length, take, drop};
 ghost use Rattle.rules.specs.Records.{number};
 ghost use Rattle.records.specs.Masks.{mask_table};
@@ -13,7 +15,7 @@ use numbers::{
 use table::MASKS;
 
 // What a record says: a route, the prefix of a withdrawal, or the number of its first fault.
-#[derive(Drop)]
+#[derive(Clone, Copy)]
 pub enum Record {
     Announces { address: u32, size: usize, hop: u32 },
     Withdraws { address: u32, size: usize },

@@ -1,4 +1,6 @@
 // Sets of hops, by value and in scratch. This crate alone knows how a set lies in words; the crates above know it by its members.
+#![tactic(auto)]
+
 ghost use Rattle.std.specs.Prelude.{◌≡◌, not};
 ghost use Rattle.theory.specs.Hops.{only, some_below, least, common, union, join};
 ghost use Rattle.rules.specs.Numbers.{MayAnnounce, highest_hop, hop_bound};
@@ -10,7 +12,7 @@ use numbers::{DISCARD, HOP_WORDS, SET_WORDS, WORD_BITS};
 const FIRST_HOP: u32 = DISCARD + 1;
 
 // A set of hops: whether discard is in it, and words with a bit for each hop behind.
-#[derive(Drop)]
+#[derive(Clone, Copy)]
 pub struct HopSet {
     discards: bool,
     words: [u64; HOP_WORDS],

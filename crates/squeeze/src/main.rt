@@ -1,5 +1,7 @@
 // The program: update records from standard input to the end, and the smallest table to standard output, or one record that tells the
 // refusal. What is written for what was read is `program::answer`; here is only the reading and the writing.
+#![tactic(auto)]
+
 ghost use Rattle.std.specs.Prelude.{◌≤◌, length};
 ghost use Rattle.squeeze.specs.Reading.{Filling};
 
@@ -7,7 +9,7 @@ use libc::{STDIN_FILENO, STDOUT_FILENO};
 use numbers::MOST_INPUT;
 
 // What came of reading: so many bytes at the start of the buffer, or a read failed.
-#[derive(Drop)]
+#[derive(Clone, Copy)]
 enum Filled {
     Bytes { count: usize },
     Failed,

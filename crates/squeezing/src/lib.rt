@@ -1,5 +1,7 @@
 // The smallest table of what lent memory holds: sets upward, entries downward. A walk down uses up one of the address's
 // bits that are left, so both end. Half of all children are no slot: they are answered on the spot, for a call costs more.
+#![tactic(auto)]
+
 ghost use Rattle.std.specs.Prelude.{◌≡◌, ◌<◌, ◌≤◌};
 ghost use Rattle.theory.specs.Hops.{only};
 ghost use Rattle.theory.specs.Smallest.{split};
@@ -14,7 +16,7 @@ use numbers::FIELDS;
 use sets::HopSet;
 
 // The set of a string, and how many strings from it on have children whose sets are apart.
-#[derive(Drop)]
+#[derive(Clone, Copy)]
 pub struct Formed {
     pub set: HopSet,
     pub splits: usize,
@@ -85,7 +87,7 @@ pub fn form_sets(
 }
 
 // Where writing stands: the hop in force in the table, and the place behind the last record.
-#[derive(Drop)]
+#[derive(Clone, Copy)]
 pub struct Standing {
     pub hop: u32,
     pub at: usize,

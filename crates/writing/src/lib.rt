@@ -1,4 +1,6 @@
 // The call that writes the smallest table of the ledger in lent memory. Every slice is taken; the call checks for itself.
+#![tactic(auto)]
+
 ghost use Rattle.std.specs.Prelude.{◌≡◌, cond, length};
 ghost use Rattle.rules.specs.Numbers.{discard};
 ghost use Rattle.memory.specs.Layout.{memory_of, zeros};
@@ -11,7 +13,7 @@ use numbers::{ADDRESS, BAD_SLICES, DISCARD, NO_ROUTE, RECORD, SET_WORDS, SHORT_O
 use sets::HopSet;
 
 // The table was written, so many records; or the call was refused by its number, with the count that document 01 gives beside it.
-#[derive(Drop)]
+#[derive(Clone, Copy)]
 pub enum Wrote {
     Table { count: usize },
     Refused { number: u32, count: usize },

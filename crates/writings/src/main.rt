@@ -1,6 +1,8 @@
 // The call that writes the smallest table, tried on the cases of document 01, on every refusal, on memory that we did not make and on
 // pseudo-random ledgers. The gate compares what is printed with the file stdout, and that with what tests/oracle works out from
 // document 01 without this code.
+#![tactic(auto)]
+
 mod cases; // cases.rt: the cases A to O
 mod discards; // discards.rt: ledgers without a default route, and discards that are announced
 mod memories; // memories.rt: memory that our calls did not make

@@ -5,7 +5,7 @@ use telling::change::{announce, withdraw};
 use telling::text::{say, say_number};
 use telling::words::next_word;
 
-#[derive(Drop)]
+#[derive(Clone, Copy)]
 enum Rule {
     // Twice 20 changes and a writing.
     Random,

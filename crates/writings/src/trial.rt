@@ -34,7 +34,7 @@ pub fn run(
 }
 
 // How many elements are lent in each slice of a memory.
-#[derive(Drop)]
+#[derive(Clone, Copy)]
 pub struct Lengths {
     pub lo: usize,
     pub hi: usize,

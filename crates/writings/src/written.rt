@@ -207,7 +207,7 @@ pub fn tell(
 }
 
 // What is lent to a writing beside the memory: a scratch of so many words, each of them `fill`, and an output of `room` bytes.
-#[derive(Drop)]
+#[derive(Clone, Copy)]
 pub struct Lent {
     pub words: usize,
     pub fill: u64,

@@ -13,94 +13,94 @@ abbrev pub addresses : ℕ → ℕ
 addresses k = 2 ^ width k
 
 -- a record: the address, then length, action and two bytes of hop
-abbrev pub recordBytes : ℕ → ℕ
-recordBytes k = k + 4
+abbrev pub record_bytes : ℕ → ℕ
+record_bytes k = k + 4
 
-abbrev pub announceAction : ℕ
-announceAction = 1
+abbrev pub announce_action : ℕ
+announce_action = 1
 
-abbrev pub withdrawAction : ℕ
-withdrawAction = 2
+abbrev pub withdraw_action : ℕ
+withdraw_action = 2
 
 -- DISCARD is hop 0
 abbrev pub discard : ℕ
 discard = 0
 
 -- hops that may be announced, discard among them, and the bound of the theorem: every hop is below it
-abbrev pub highestHop : ℕ
-highestHop = 256
+abbrev pub highest_hop : ℕ
+highest_hop = 256
 
 abbrev pub MayAnnounce : ℕ → Type 0
-MayAnnounce h = h ≤ highestHop
+MayAnnounce h = h ≤ highest_hop
 
-abbrev pub hopBound : ℕ
-hopBound = highestHop + 1
+abbrev pub hop_bound : ℕ
+hop_bound = highest_hop + 1
 
 -- an address without a route is discarded: the answer of a lookup there, and what is in force above the empty string
-abbrev pub noRoute : ℕ
-noRoute = discard
+abbrev pub no_route : ℕ
+no_route = discard
 
 -- the most slots that may be lent
-abbrev pub mostSlots : ℕ
-mostSlots = 1048576
+abbrev pub most_slots : ℕ
+most_slots = 1048576
 
 -- the slots of the fresh ledger that the daemon's table call and the program have of their own
-abbrev pub ownSlots : ℕ
-ownSlots = 1024
+abbrev pub own_slots : ℕ
+own_slots = 1024
 
 -- the bytes that the program takes
-abbrev pub mostInput : ℕ
-mostInput = 4096
+abbrev pub most_input : ℕ
+most_input = 4096
 
 -- what stands in the place of the action in a record that the program writes for a refusal
-abbrev pub refusalMark : ℕ
-refusalMark = 255
+abbrev pub refusal_mark : ℕ
+refusal_mark = 255
 
 -- a set of hops: u64 words with a bit for each hop behind discard, four of them; a word more beside them for discard is what a slot's set takes of
 -- the scratch, five; and the words that writing asks for
-abbrev pub wordBits : ℕ
-wordBits = 64
+abbrev pub word_bits : ℕ
+word_bits = 64
 
-abbrev pub hopWords : ℕ
-hopWords = highestHop / wordBits
+abbrev pub hop_words : ℕ
+hop_words = highest_hop / word_bits
 
-abbrev pub setWords : ℕ
-setWords = hopWords + 1
+abbrev pub set_words : ℕ
+set_words = hop_words + 1
 
-abbrev pub scratchWords : ℕ → ℕ
-scratchWords slots = setWords * slots
+abbrev pub scratch_words : ℕ → ℕ
+scratch_words slots = set_words * slots
 
 -- The refusals, by the paper's numbers.
-abbrev pub badSlices : ℕ
-badSlices = 1
+abbrev pub bad_slices : ℕ
+bad_slices = 1
 
-abbrev pub noLedger : ℕ
-noLedger = 2
+abbrev pub no_ledger : ℕ
+no_ledger = 2
 
-abbrev pub badListLength : ℕ
-badListLength = 3
+abbrev pub bad_list_length : ℕ
+bad_list_length = 3
 
-abbrev pub badPrefixLength : ℕ
-badPrefixLength = 4
+abbrev pub bad_prefix_length : ℕ
+bad_prefix_length = 4
 
-abbrev pub strayBit : ℕ
-strayBit = 5
+abbrev pub stray_bit : ℕ
+stray_bit = 5
 
-abbrev pub badAction : ℕ
-badAction = 6
+abbrev pub bad_action : ℕ
+bad_action = 6
 
-abbrev pub badHop : ℕ
-badHop = 7
+abbrev pub bad_hop : ℕ
+bad_hop = 7
 
-abbrev pub notHeld : ℕ
-notHeld = 8
+abbrev pub not_held : ℕ
+not_held = 8
 
-abbrev pub noSlots : ℕ
-noSlots = 9
+abbrev pub no_slots : ℕ
+no_slots = 9
 
 -- (10 was that of a ledger without a default route, until item 2 of document 02)
-abbrev pub shortOutput : ℕ
-shortOutput = 11
+abbrev pub short_output : ℕ
+short_output = 11
 
-abbrev pub longInput : ℕ
-longInput = 12
+abbrev pub long_input : ℕ
+long_input = 12

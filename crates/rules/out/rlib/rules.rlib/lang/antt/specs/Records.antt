@@ -3,7 +3,7 @@ use Rattle.std.specs.Prelude.{Bool, true, false, cond, not, ◌&&◌, ◌||◌, 
 use Rattle.std.proofs.Math.Option.{Option, none, some}
 use Rattle.theory.specs.Bits.{Bits, bits_of, address_of, some_of}
 use Rattle.theory.specs.Ledger.{Entry, ◌via◌}
-use Rattle.rules.specs.Numbers.{width, recordBytes, announceAction, withdrawAction, highestHop, MayAnnounce, badPrefixLength, strayBit, badAction, badHop}
+use Rattle.rules.specs.Numbers.{width, record_bytes, announce_action, withdraw_action, highest_hop, MayAnnounce, bad_prefix_length, stray_bit, bad_action, bad_hop}
 
 -- numbers in bytes go high byte first
 abbrev pub number : List ℕ → ℕ
@@ -26,8 +26,8 @@ ProperChange w (withdraws p) = length p ≤ w
 
 -- a record's bytes: the address, the length, the action, and the hop in two bytes
 abbrev pub print : ℕ → Change → List ℕ
-print k (announces p h) = bytes_of k (address_of (width k) p) ++ length p ∷ announceAction ∷ bytes_of 2 h
-print k (withdraws p) = bytes_of k (address_of (width k) p) ++ length p ∷ withdrawAction ∷ bytes_of 2 0
+print k (announces p h) = bytes_of k (address_of (width k) p) ++ length p ∷ announce_action ∷ bytes_of 2 h
+print k (withdraws p) = bytes_of k (address_of (width k) p) ++ length p ∷ withdraw_action ∷ bytes_of 2 0
 
 -- a record's fields, as they stand in its bytes
 pub record Fields : Type 0 where
@@ -48,34 +48,34 @@ fields_of k r = record {
 pub data Use : Type 0 where
   update lookup : Use
 
-abbrev pub takesWithdrawals : Use → Bool
-takesWithdrawals update = true
-takesWithdrawals lookup = false
+abbrev pub takes_withdrawals : Use → Bool
+takes_withdrawals update = true
+takes_withdrawals lookup = false
 
 -- THE FIELD RULES 4 to 7, in order: each is the fault's test and the fault's number
 pub data Rule : Type 0 where
-  ◌refusedBy◌ : Bool → ℕ → Rule
+  ◌refused_by◌ : Bool → ℕ → Rule
 
-infixl 90 ◌refusedBy◌
+infixl 90 ◌refused_by◌
 -- is a bit of the address behind the length set?
-unfoldable pub strayBits : ℕ → ℕ → ℕ → Bool
-strayBits w size address = some_of (λ b. b) (drop size (bits_of w address))
+unfoldable pub stray_bits : ℕ → ℕ → ℕ → Bool
+stray_bits w size address = some_of (λ b. b) (drop size (bits_of w address))
 
-abbrev pub badHopFor : ℕ → ℕ → Bool
-badHopFor action hop = cond (eqb action announceAction) (ltb highestHop hop) (not (eqb hop 0))
+abbrev pub bad_hop_for : ℕ → ℕ → Bool
+bad_hop_for action hop = cond (eqb action announce_action) (ltb highest_hop hop) (not (eqb hop 0))
 
-abbrev pub fieldRules : Use → ℕ → Fields → List Rule
-fieldRules u w f =
-    ltb w f.size refusedBy badPrefixLength
-    ∷ strayBits w f.size f.address refusedBy strayBit
-    ∷ not (eqb f.action announceAction || (takesWithdrawals u && eqb f.action withdrawAction)) refusedBy badAction
-    ∷ badHopFor f.action f.hop refusedBy badHop
+abbrev pub field_rules : Use → ℕ → Fields → List Rule
+field_rules u w f =
+    ltb w f.size refused_by bad_prefix_length
+    ∷ stray_bits w f.size f.address refused_by stray_bit
+    ∷ not (eqb f.action announce_action || (takes_withdrawals u && eqb f.action withdraw_action)) refused_by bad_action
+    ∷ bad_hop_for f.action f.hop refused_by bad_hop
     ∷ []
 
 -- the first rule that is broken
-abbrev pub firstFault : List Rule → Option ℕ
-firstFault [] = none
-firstFault (broken refusedBy x ∷ rules) = cond broken (some x) (firstFault rules)
+abbrev pub first_fault : List Rule → Option ℕ
+first_fault [] = none
+first_fault (broken refused_by x ∷ rules) = cond broken (some x) (first_fault rules)
 
 -- READING a record: its meaning, or the number of its first fault
 pub data Reading : Type 0 where
@@ -84,35 +84,35 @@ pub data Reading : Type 0 where
 
 abbrev pub meaning : ℕ → Fields → Change
 meaning w f =
-    cond (eqb f.action announceAction) (announces (take f.size (bits_of w f.address)) f.hop)
+    cond (eqb f.action announce_action) (announces (take f.size (bits_of w f.address)) f.hop)
     (withdraws (take f.size (bits_of w f.address)))
 
-abbrev pub faultOr : Option ℕ → Change → Reading
-faultOr none c = means c
-faultOr (some x) c = faulty x
+abbrev pub fault_or : Option ℕ → Change → Reading
+fault_or none c = means c
+fault_or (some x) c = faulty x
 
 unfoldable pub read : Use → ℕ → List ℕ → Reading
-read u k r = faultOr (firstFault (fieldRules u (width k) (fields_of k r))) (meaning (width k) (fields_of k r))
+read u k r = fault_or (first_fault (field_rules u (width k) (fields_of k r))) (meaning (width k) (fields_of k r))
 
 -- a list's records, m of them
 abbrev pub pieces : ℕ → ℕ → List ℕ → List (List ℕ)
 pieces size zero bytes = []
 pieces size (suc m) bytes = take size bytes ∷ pieces size m (drop size bytes)
 
-abbrev pub recordsOf : ℕ → List ℕ → List (List ℕ)
-recordsOf k bytes = pieces (recordBytes k) (length bytes / recordBytes k) bytes
+abbrev pub records_of : ℕ → List ℕ → List (List ℕ)
+records_of k bytes = pieces (record_bytes k) (length bytes / record_bytes k) bytes
 
-abbrev pub wholeRecords : ℕ → List ℕ → Bool
-wholeRecords k bytes = eqb (length bytes % recordBytes k) 0
+abbrev pub whole_records : ℕ → List ℕ → Bool
+whole_records k bytes = eqb (length bytes % record_bytes k) 0
 
 -- a list of changes, and a table, as bytes
-abbrev pub printAll : ℕ → List Change → List ℕ
-printAll k [] = []
-printAll k (c ∷ cs) = print k c ++ printAll k cs
+abbrev pub print_all : ℕ → List Change → List ℕ
+print_all k [] = []
+print_all k (c ∷ cs) = print k c ++ print_all k cs
 
 abbrev pub announcements : List Entry → List Change
 announcements [] = []
 announcements (p via h ∷ es) = announces p h ∷ announcements es
 
-abbrev pub printTable : ℕ → List Entry → List ℕ
-printTable k es = printAll k (announcements es)
+abbrev pub print_table : ℕ → List Entry → List ℕ
+print_table k es = print_all k (announcements es)

@@ -2,12 +2,8 @@
 -- Assumes nothing.
 use mathlib.Core.Path.{refl}
 use Rattle.records.specs.Masks.{mask_table}
-use Rattle.records.proofs.mask_table.Statement.{statement}
-use Rattle.records.proofs.mask_table.Tie as tie
+use Rattle.records.proofs.mask_table.Goals as goal
 
-returns : tie.Need-returns
+pub returns : goal.returns
 unfolding mask_table
 returns c = refl
-
-pub mask-table-spec : {M : Type 1} → statement M
-mask-table-spec = tie.close (tie.spec returns)

@@ -1,0 +1,20 @@
+-- Word by word, the bits of both.
+use Prim.Native.Nat.{◌-◌}
+use native.Mathlib.Omega.{arith}
+use lib.Bits.{bit_and}
+use Rattle.rules.specs.Numbers.{hop_words}
+use Rattle.sets.proofs.Each.{each_none, each_more, common_done}
+use borrow.Author.Rules.{rules}
+use Rattle.sets.proofs.common_bits.Goals as goal
+
+pub loop-k-init : goal.loop-k-init
+loop-k-init c = each_none bit_and hop_words _ _
+
+pub loop-k-smaller : goal.loop-k-smaller
+loop-k-smaller c = omega (arith, c.loop-k-test.true)
+
+pub loop-k-preserved : goal.loop-k-preserved
+loop-k-preserved c = each_more bit_and hop_words _ _ _ c.loop-k.invariant (search rules) c.loop-k-test.true
+
+pub returns : goal.returns
+returns c = common_done hop_words _ _ _ c.loop-k.invariant (search rules) (search rules) c.loop-k-test.false
