@@ -61,11 +61,27 @@ def turn(folder, old, crate, function):
             said.append("no step " + step)
             return "c." + step
         body = body.replace(".type-inv", ".type_inv")
+        # a test of `!x` says of `x` what it says now
+        body = re.sub(r"\(?\bnot-(?:true|false) _ (c(?:\.[\w-]+)+)\)?(?=\))", r"\1", body)
         body = re.sub(r"(?<![\w.'-])(%s)(?:\.before)*\.(?!before)(%s)" % (roots, NAME), path, body)
         for a, b in args.items():
             if a.startswith(".args") or a.startswith(".ranges"):
                 body = re.sub(re.escape("c" + a.replace(" ", "")) + r"(?![\w'-])", "c" + b.replace(" ", ""), body)
         return body
+
+    # what an answer was called in this file, and which goal it answers: one may cite another
+    called = {}
+    for block in defs:
+        for l in block:
+            m = re.match(r"(%s) : tie\.Need-([\w-]+)" % NAME, l)
+            if m:
+                key = plain(m[2])
+                called[m[1]] = needs.get(key) or needs.get(key.replace("overflow_", "", 1)) or m[1]
+    whole = "\n".join(l for b in defs for l in b)
+    cited = {n for n in called if len(re.findall(r"(?<![\w.'-])%s(?![\w'-])" % re.escape(n), whole)) > 4}
+    def renamed(body):
+        return re.sub(r"(?<![\w.'-])%s" % NAME, lambda t: called.get(t[0], t[0]) if t[0] in called and t[0] not in local else t[0], body)
+    local = set()
 
     for block in defs:
         first = next(i for i, l in enumerate(block) if not l.startswith("--"))
@@ -86,7 +102,7 @@ def turn(folder, old, crate, function):
             new, vs = loops.get(plain(loop), (None, []))
             if new is None:
                 said.append("no loop " + loop); answers.append("\n".join(block)); continue
-            eq = re.match(r"%s((?: \S+)*) =\s*(.*)$" % re.escape(m[2]), body, re.S)
+            eq = re.match(r"%s((?: (?!= )[^\s{}()]+)*) =\s*(.*)$" % re.escape(m[2]), body, re.S)
             params = eq[1].split()
             def var(t):
                 v = t[0]
@@ -100,15 +116,17 @@ def turn(folder, old, crate, function):
             continue
         key = plain(kind[len("Need-"):])
         goal = needs.get(key) or needs.get(key.replace("overflow_", "", 1))
+        if not goal and body.strip().endswith("= search rules"):
+            continue
         if not goal:
             said.append("no need " + kind); answers.append("\n".join(block)); continue
-        eq = re.match(r"((?:unfolding .*\n)?)%s((?: \S+)*) =(.*)$" % re.escape(m[2]), body, re.S)
+        eq = re.match(r"((?:unfolding .*\n)?)%s((?: (?!= )[^\s{}()]+)*) =(.*)$" % re.escape(m[2]), body, re.S)
         if not eq:
             said.append("unread " + goal); answers.append("\n".join(block)); continue
         rest = eq[3].strip()
         if rest in ("search rules", "refl") and not eq[1]:
             continue
-        answers.append("\n".join(notes + ["pub %s : goal.%s" % (goal, goal), "%s%s c =%s" % (eq[1], goal, flat(eq[3]))]))
+        answers.append("\n".join(notes + ["pub %s : goal.%s" % (goal, goal), "%s%s c =%s" % (eq[1], goal, renamed(flat(eq[3])))]))
 
     where = "Rattle.%s.proofs.%s" % (crate, os.path.relpath(folder, "proofs").replace("/", "."))
     keep = [l for l in head if not re.search(r"\.(Statement|Tie|Reads|Kinds)\b|\.Lts", l)]
