@@ -8,14 +8,6 @@ use Rattle.records.specs.declared.Record.TheVariants.{Announces}
 use Rattle.records.specs.Promise.{InBounds, ReadsRecord}
 use Rattle.lists.proofs.Scan.{bad_length, at_first, fits_here, faulty_here, withdrawal_here, announcement_here, at_last}
 use Rattle.lists.proofs.lookup_list.Goals as goal
-use Rattle.lists.proofs.lookup_list.Goals.{In-Announces-2}
-
--- in the arm of an announcement, the record that was read is that announcement
-announced : (c : In-Announces-2 invariant-loop decreases-loop)
-    → ReadsRecord c.args.list.now
-    c.loop-at.at false
-    (Announces c.next-1.given.0.0 c.next-1.given.0.1.0 c.next-1.given.0.1.1.0)
-announced c = subst (ReadsRecord _ _ false) c.next-1.given.1 c.read_record-next.ensures
 
 pub returns-then-list-ne0 : goal.returns-then-list-ne0
 returns-then-list-ne0 c = bad_length _ _ c.if-list-ne0.true
@@ -33,26 +25,24 @@ read_record-next-requires c =
 pub better-best-requires : goal.better-best-requires
 unfolding InBounds
 better-best-requires c =
-    let arm = c.before.before in
-    record { proper = (announced arm).bounds.prefix; table = c.mask_table-masks.ensures }
+    record { proper = c.in-Announces.ensures.bounds.prefix; table = c.mask_table-masks.ensures }
 
 pub returns-in-Withdraws : goal.returns-in-Withdraws
 returns-in-Withdraws c =
     withdrawal_here c.loop-at.invariant c.loop-at-test.true
-    (subst (ReadsRecord _ _ false) c.enum_told-1.given.1 c.read_record-next.ensures)
+    c.in-Withdraws.ensures
 
 pub returns-in-Faulty : goal.returns-in-Faulty
 returns-in-Faulty c =
     faulty_here c.loop-at.invariant c.loop-at-test.true
-    (subst (ReadsRecord _ _ false) c.next-in-Faulty-1.given.1 c.read_record-next.ensures)
+    c.in-Faulty.ensures
 
 pub loop-at-smaller : goal.loop-at-smaller
 loop-at-smaller c = omega (arith, c.loop-at-test.true)
 
 pub loop-at-preserved : goal.loop-at-preserved
 loop-at-preserved c =
-    let arm = c.before.before.before in
-    announcement_here c.loop-at.invariant c.loop-at-test.true (announced arm) c.better-best.ensures
+    announcement_here c.loop-at.invariant c.loop-at-test.true c.in-Announces.ensures c.better-best.ensures
 
 pub returns : goal.returns
 returns c = at_last c.loop-at.invariant c.loop-at-test.false
