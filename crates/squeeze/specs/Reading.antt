@@ -5,7 +5,7 @@ use Rattle.squeeze.specs.declared.Filled.TheVariants.{Bytes, Failed}
 
 abbrev pub Within : ℕ → List ℕ → Filled → Type 0
 Within done buffer (Bytes count) = done + count ≤ length buffer
-Within done buffer Failed = Unit {0}
+Within done buffer (Failed error) = Unit {0}
 
 pub record Filling (done : ℕ) (buffer : List ℕ) (r : Filled) : Type 0 where
   pub within : Within done buffer r

@@ -1,0 +1,9 @@
+-- The bytes that came lie within the buffer: those that were there, and behind them those of the last read.
+use Rattle.std.proofs.Common.{length, ◌-◌, ◌≤◌}
+use Rattle.squeeze.proofs.fill.Given as goal
+
+abbrev pub invariant-loop-done : goal.invariant-loop-done
+invariant-loop-done g l = l.done ≤ length l.buffer
+
+abbrev pub decreases-loop-done : goal.decreases-loop-done
+decreases-loop-done g l = length l.initial.buffer - l.done
