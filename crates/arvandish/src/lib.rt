@@ -5,16 +5,14 @@ ghost use Rattle.arvandish.specs.Promise.{LooksUpForC, TablesForC};
 
 use answers::{CountAnswer, FoundAnswer};
 
-#[unsafe(no_mangle)]
-pub extern "C" fn arvandish_lookup(list: &[u8], address: u32) -> FoundAnswer
+pub fn arvandish_lookup(list: &[u8], address: u32) -> FoundAnswer
     ensures { LooksUpForC list.now address result }
 {
     let found = lists::lookup_list(list, address);
     answers::found(found)
 }
 
-#[unsafe(no_mangle)]
-pub extern "C" fn arvandish_table(list: &[u8], output: &mut [u8]) -> CountAnswer
+pub fn arvandish_table(list: &[u8], output: &mut [u8]) -> CountAnswer
     ensures { TablesForC list.now output.old output.new result }
 {
     let wrote = fresh::table(list, output);

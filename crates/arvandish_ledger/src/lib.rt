@@ -7,8 +7,7 @@ ghost use Rattle.arvandish_ledger.specs.Promise.{UpdatesToC, LooksUpToC, WritesT
 
 use answers::{CountAnswer, FoundAnswer};
 
-#[unsafe(no_mangle)]
-pub extern "C" fn arvandish_ledger_update(
+pub fn arvandish_ledger_update(
     lo: &mut [u32],
     hi: &mut [u32],
     up: &mut [u32],
@@ -21,8 +20,7 @@ pub extern "C" fn arvandish_ledger_update(
     answers::updated(updated)
 }
 
-#[unsafe(no_mangle)]
-pub extern "C" fn arvandish_ledger_lookup(
+pub fn arvandish_ledger_lookup(
     lo: &[u32],
     hi: &[u32],
     up: &[u32],
@@ -35,8 +33,7 @@ pub extern "C" fn arvandish_ledger_lookup(
     answers::found(found)
 }
 
-#[unsafe(no_mangle)]
-pub extern "C" fn arvandish_ledger_write(
+pub fn arvandish_ledger_write(
     lo: &[u32],
     hi: &[u32],
     up: &[u32],
