@@ -1,6 +1,6 @@
 -- Setting a slot's hop: the ledger changes for that slot's string alone.
 use mathlib.Core.Path.{◌≡◌, refl, sym, ap, subst, ◌∙◌, fun_ext}
-use mathlib.Core.Logic.{◌⊎◌, inl, inr, ⊎_map}
+use mathlib.Core.Logic.{inl, inr, ⊎_map}
 use mathlib.Core.Bool.{true, cond}
 use mathlib.Core.List.{reverse, reverse-reverse}
 use mathlib.Core.Option.{none, some}

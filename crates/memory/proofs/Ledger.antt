@@ -1,6 +1,6 @@
 -- The ledger that a memory holds: it is within the record rules in any memory, a prefix's slot has its hop, and longest match
 -- is what a walk along a path has in force.
-use Rattle.std.proofs.Common.{◌≡◌, ℕ, zero, suc, ◌+◌, ◌-◌, ◌<◌, ◌≤◌, Bool, true, false, leb, [], reverse, length, get_or, sym, refl, ap, ◌∙◌, ap₂, inl, inr, add-one, arith, le-ltb, lt-ltb, le-leb, leb-false, leb-true}
+use Rattle.std.proofs.Common.{◌≡◌, ℕ, zero, suc, ◌+◌, ◌-◌, ◌<◌, ◌≤◌, Bool, true, false, leb, [], reverse, length, get_or, sym, refl, ap, ◌∙◌, ap₂, inl, inr, add-one, arith, lt-ltb, le-leb, leb-false, leb-true}
 use mathlib.Core.List.{reverse-reverse}
 use mathlib.Core.Option.{none, some}
 use lib.ListN.{get_or-eq_default}

@@ -1,6 +1,5 @@
 -- The walk down ends at the last slot on the path; each turn hangs the next one below it, and the ledger is as it was. At the end
 -- the hop is set, or no slot was left.
-use Prim.Native.Nat.{◌-◌}
 use native.Mathlib.Omega.{arith}
 use Rattle.editing.proofs.Walking.{kept_lo, kept_hi, kept_hop}
 use Rattle.editing.proofs.Ending.{can_walk, step_refused, step_taken, start, at_end, go_on, still_on, announce_refused, announce_taken}

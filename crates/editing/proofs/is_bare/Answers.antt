@@ -4,7 +4,6 @@ use lib.Dec.{eqb}
 use lib.ListN.{length}
 use Rattle.memory.specs.Layout.{memory_of}
 use Rattle.memory.proofs.Bare.{busy_hop, bare_last, bare_first, bare_second}
-use borrow.Author.Rules.{rules}
 use Rattle.editing.proofs.is_bare.Goals as goal
 
 pub returns-then-holds : goal.returns-then-holds

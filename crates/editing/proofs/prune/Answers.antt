@@ -2,7 +2,6 @@
 use mathlib.Core.Path.{sym, ◌∙◌}
 use Prim.Native.Nat.{◌-◌, ◌/◌}
 use native.Mathlib.Omega.{arith}
-use borrow.Author.Tests.{not-true, not-false}
 use Rattle.memory.specs.Layout.{memory_of}
 use Rattle.editing.proofs.Walking.{reworked_self, reworked_then, above, step_up, up_ends_busy, up_ends_first, kept_lo, kept_hi, kept_hop}
 use Rattle.editing.proofs.prune.Goals as goal

@@ -1,5 +1,4 @@
 -- Each turn frees one bare slot and goes to its parent, which its mark names.
-use Prim.Native.Nat.{◌-◌}
 use Rattle.memory.specs.Path.{path_bit}
 use Rattle.memory.specs.Layout.{memory_of}
 use Rattle.editing.specs.Routes.{Reworked, OnPath}

@@ -1,6 +1,6 @@
 -- Each turn goes one step up; the answer is what is left to be found from there.
 use mathlib.Core.Path.{◌≡◌}
-use Prim.Native.Nat.{◌-◌, ◌≤◌, ◌<◌}
+use Prim.Native.Nat.{◌≤◌, ◌<◌}
 use lib.ListN.{length}
 use Rattle.memory.specs.Layout.{tree_of}
 use Rattle.editing.specs.Spare.{rises}

@@ -1,10 +1,8 @@
 -- The slot is looked for; where it holds a hop, that is set to none and what is bare now is freed.
 use mathlib.Core.Path.{sym, ◌∙◌}
-use borrow.Author.Tests.{not-true, not-false}
 use Rattle.memory.specs.Path.{path_bit}
 use Rattle.memory.specs.Layout.{memory_of}
 use Rattle.editing.proofs.Ending.{withdraw_no_slot, withdraw_no_hop, unheld_on, withdraw_taken}
-use borrow.Author.Rules.{rules}
 use Rattle.editing.proofs.withdraw.Goals as goal
 
 pub returns-then-slot-up : goal.returns-then-slot-up

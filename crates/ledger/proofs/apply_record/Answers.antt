@@ -1,8 +1,4 @@
 -- The record is read; a route is set or removed, and its answer is that of the plain ledger.
-use mathlib.Core.Path.{subst}
-use mathlib.Core.Bool.{true}
-use Rattle.records.specs.declared.Record.TheVariants.{Announces, Withdraws}
-use Rattle.records.specs.Promise.{ReadsRecord}
 use Rattle.ledger.proofs.Applying.{applies_faulty, can_announce, announcement_taken, announcement_refused, can_withdraw, withdrawal_taken, withdrawal_refused}
 use Rattle.ledger.proofs.apply_record.Goals as goal
 

@@ -1,5 +1,4 @@
 -- The invariant: so many records are applied, and applying the rest to what is held now gives the whole answer (Ahead of Batch).
-use Prim.Native.Nat.{◌-◌}
 use native.Mathlib.Omega.{arith}
 use Rattle.memory.specs.Layout.{memory_of}
 use Rattle.ledger.proofs.Batch.{refused_whole, refused_list, begin, fits_here, count_fits, go_on, stopped, finished}

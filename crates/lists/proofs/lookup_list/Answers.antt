@@ -1,11 +1,7 @@
 -- `lists::lookup_list` meets its contract. The invariant: from here, the rest of the list gives the whole answer (Ahead of Scan).
 -- The measure is what is left of the list. Assumes nothing.
-use mathlib.Core.Path.{subst}
-use mathlib.Core.Bool.{false}
-use Prim.Native.Nat.{◌-◌}
 use native.Mathlib.Omega.{arith}
-use Rattle.records.specs.declared.Record.TheVariants.{Announces}
-use Rattle.records.specs.Promise.{InBounds, ReadsRecord}
+use Rattle.records.specs.Promise.{InBounds}
 use Rattle.lists.proofs.Scan.{bad_length, at_first, fits_here, faulty_here, withdrawal_here, announcement_here, at_last}
 use Rattle.lists.proofs.lookup_list.Goals as goal
 

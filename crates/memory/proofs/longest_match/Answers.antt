@@ -1,5 +1,5 @@
 -- At each turn the slot is that of the bits passed and the hop is the one in force there; where the walk finds no slot, it stays.
-use Rattle.std.proofs.Common.{◌-◌, refl, arith}
+use Rattle.std.proofs.Common.{refl, arith}
 use Rattle.rules.specs.Numbers.{no_route}
 use Rattle.memory.specs.Path.{path_bit}
 use Rattle.memory.specs.Layout.{tree_of, memory_of}

@@ -1,5 +1,5 @@
 -- At each turn the slot is that of the bits passed; the walk ends where the next bit has no child, or where no bit is left.
-use Rattle.std.proofs.Common.{◌-◌, refl, arith}
+use Rattle.std.proofs.Common.{refl, arith}
 use Rattle.memory.specs.Path.{path_bit}
 use Rattle.memory.proofs.Find.{step_front}
 use Rattle.memory.proofs.Reach.{stops_short, goes_through}

@@ -1,5 +1,4 @@
 -- At each turn the output has the address's bytes passed; the four behind them make the record.
-use Prim.Native.Nat.{◌-◌}
 use lib.ListN.{length-set}
 use native.Mathlib.Omega.{arith}
 use Rattle.printing.proofs.Writing.{written_none, written_more, written_all}

@@ -1,7 +1,5 @@
 -- What the table call answers is told, each answer by its law.
-use mathlib.Core.Path.{subst}
 use native.Mathlib.Omega.{arith}
-use Rattle.fresh.specs.Promise.{Tables}
 use Rattle.program.proofs.Telling.{answers_short, answers_long, answers_table, number_fits, place_fits, answers_refusal}
 use Rattle.program.proofs.answer.Goals as goal
 

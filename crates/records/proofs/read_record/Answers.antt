@@ -6,7 +6,6 @@ use mathlib.Core.Bool.{true}
 use Prim.Native.Nat.{◌+◌}
 use native.Mathlib.Omega.{arith}
 use borrow.Author.Rules.{rules}
-use borrow.Author.Tests.{not-true, not-false}
 use Rattle.rules.specs.Numbers.{ipv4, width}
 use Rattle.rules.specs.Records.{takes_withdrawals}
 use Rattle.records.specs.Promise.{use_of}
@@ -16,7 +15,7 @@ use Rattle.records.proofs.read_record.Goals as goal
 use Rattle.records.proofs.read_record.Goals.{After-two_bytes-hop, Else-address-masks, Else-not-withdrawals}
 
 fetched : (c : After-two_bytes-hop)
-    →    Fetched c.args.list.now c.args.at c.four_bytes-address.result c.two_bytes-hop.result
+    → Fetched c.args.list.now c.args.at c.four_bytes-address.result c.two_bytes-hop.result
 fetched c =
     let address = c.four_bytes-address in
     record { whole = c.requires.whole; address_is = address.ensures; fits = omega (arith, address.type_inv); hop_is = c.two_bytes-hop.ensures.0 }

@@ -1,5 +1,4 @@
 -- Word by word, the bits of both.
-use Prim.Native.Nat.{◌-◌}
 use native.Mathlib.Omega.{arith}
 use lib.Bits.{bit_and}
 use Rattle.rules.specs.Numbers.{hop_words}

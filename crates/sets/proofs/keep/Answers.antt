@@ -1,5 +1,4 @@
 -- The words are stored one after the other, and the flag behind them.
-use Prim.Native.Nat.{◌-◌}
 use native.Mathlib.Omega.{arith}
 use Rattle.sets.proofs.Filling.{filled_none, filled_more}
 use Rattle.sets.proofs.Members.{word_of_lem, keeps}

@@ -1,5 +1,4 @@
 -- The words are read one after the other, and the flag behind them.
-use Prim.Native.Nat.{◌-◌}
 use mathlib.Core.Path.{refl, sym}
 use native.Mathlib.Nat.{zero-add}
 use native.Mathlib.Omega.{arith}

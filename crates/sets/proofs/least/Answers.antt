@@ -1,5 +1,4 @@
 -- Discard is the least hop there is; otherwise the words are looked at in turn, and all before the one that has a digit are 0.
-use Prim.Native.Nat.{◌-◌}
 use native.Mathlib.Omega.{arith}
 use lib.ListN.{get_or}
 use Rattle.rules.specs.Numbers.{word_bits}

@@ -1,6 +1,5 @@
 -- The bits of the words so far, all at once.
 use mathlib.Core.Path.{refl}
-use Prim.Native.Nat.{◌-◌}
 use native.Mathlib.Omega.{arith}
 use Rattle.rules.specs.Numbers.{hop_words}
 use Rattle.sets.proofs.Digits.{in_word, seen_more, seen_all}

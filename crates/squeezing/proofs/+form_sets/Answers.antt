@@ -1,10 +1,8 @@
 -- The bits that are left fall by one at each call; a child that is no slot is answered as a call would answer it.
 use mathlib.Core.Path.{refl}
-use mathlib.Core.Logic.{⊎_elim}
-use Prim.Native.Nat.{ℕ, ◌-◌, ◌<◌}
+use Prim.Native.Nat.{ℕ, ◌-◌}
 use native.Mathlib.Omega.{arith}
 use mathlib.Core.Bool.{true, false}
-use borrow.Author.Rules.{rules}
 use Rattle.memory.proofs.Find.{not_none}
 use Rattle.memory.specs.Layout.{memory_of}
 use Rattle.squeezing.specs.Stored.{Forms}

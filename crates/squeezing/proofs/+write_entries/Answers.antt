@@ -1,11 +1,9 @@
 -- The bits that are left fall by one at each call; a child that is no slot is entered as a call would enter it.
 use mathlib.Core.Path.{◌≡◌, refl}
 use mathlib.Core.List.{List}
-use mathlib.Core.Logic.{⊎_elim}
-use Prim.Native.Nat.{ℕ, ◌-◌, ◌<◌}
+use Prim.Native.Nat.{ℕ, ◌-◌}
 use native.Mathlib.Omega.{arith}
-use borrow.Author.Rules.{rules}
-use Rattle.memory.specs.Layout.{Memory, memory_of}
+use Rattle.memory.specs.Layout.{memory_of}
 use Rattle.memory.proofs.Find.{not_none}
 use Rattle.sets.specs.Sets.{members}
 use Rattle.squeezing.specs.Below.{set_below}

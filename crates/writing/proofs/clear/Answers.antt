@@ -1,5 +1,4 @@
 -- At each turn the words in front of the place are 0.
-use Prim.Native.Nat.{◌-◌}
 use native.Mathlib.Omega.{arith}
 use Rattle.writing.proofs.Clearing.{cleared_none, cleared_length, cleared_more, cleared_all}
 use Rattle.writing.proofs.clear.Goals as goal

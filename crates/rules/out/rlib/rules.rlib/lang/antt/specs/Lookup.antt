@@ -1,5 +1,5 @@
 -- LOOKUP: the hop of an address in a ledger, and in a list of records.
-use Rattle.std.specs.Prelude.{◌≡◌, cond, List, [], ◌∷◌, map, ℕ, suc, ◌<◌, ◌^◌}
+use Rattle.std.specs.Prelude.{◌≡◌, cond, List, [], ◌∷◌, map, ℕ, suc, ◌<◌}
 use Rattle.std.proofs.Math.Option.{Option, none, some}
 use Rattle.theory.specs.Bits.{bits_of}
 use Rattle.theory.specs.Ledger.{Ledger, Entry, ◌via◌, is_held, longest, load}
