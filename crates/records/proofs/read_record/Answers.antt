@@ -34,9 +34,6 @@ takes : (c : Else-not-withdrawals)
 takes c =
     uses c.args.withdrawals c.if-not-withdrawals.false
 
-pub overflow_cast-size : goal.overflow_cast-size
-overflow_cast-size c = omega (arith, c.shared_slice_known-2-1.given (c.args.at + 4))
-
 -- rule 4
 pub returns-then-size-gt-WIDTH : goal.returns-then-size-gt-WIDTH
 returns-then-size-gt-WIDTH c = faults (fetched (goal.at.returns-then-size-gt-WIDTH c).After-two_bytes-hop) (search rules) (too_long c.if-size-gt-WIDTH.true)
