@@ -3,6 +3,7 @@ ghost use Rattle.std.specs.Prelude.{◌≡◌, ◌+◌, ◌<◌, ◌≤◌, leng
 
 use crate::text::{say, say_address, say_number};
 use numbers::{ACTION_AT, ANNOUNCE, HOP_AT, NO_HOP, RECORD, SIZE_AT, WITHDRAW};
+use std::io;
 
 // In a run of changes, not a record: look around.
 pub const LOOK: u64 = 0xFFFFFFFFFFFFFFFF;
@@ -64,23 +65,23 @@ pub fn record_at(list: &[u8], at: usize) -> u64
     )
 }
 
-fn say_action(action: u8) {
+fn say_action(rt: &impl Print, action: u8) -> io::Result<()> {
     if action == ANNOUNCE {
-        say(b"announce ");
+        say(rt, b"announce ")
     } else if action == WITHDRAW {
-        say(b"withdraw ");
+        say(rt, b"withdraw ")
     } else {
-        say(b"action ");
-        say_number(action as u64);
-        say(b" ");
+        say(rt, b"action ")?;
+        say_number(rt, action as u64)?;
+        say(rt, b" ")
     }
 }
 
-pub fn say_change(change: u64) {
-    say_action((change / 65536 % 256) as u8);
-    say_address((change / 4294967296) as u32);
-    say(b"/");
-    say_number(change / 16777216 % 256);
-    say(b" hop ");
-    say_number(change % 65536);
+pub fn say_change(rt: &impl Print, change: u64) -> io::Result<()> {
+    say_action(rt, (change / 65536 % 256) as u8)?;
+    say_address(rt, (change / 4294967296) as u32)?;
+    say(rt, b"/")?;
+    say_number(rt, change / 16777216 % 256)?;
+    say(rt, b" hop ")?;
+    say_number(rt, change % 65536)
 }

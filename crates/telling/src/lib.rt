@@ -2,6 +2,7 @@
 #![tactic(auto)]
 
 pub mod change; // change.rt: a record by its fields
+pub mod counts; // counts.rt: how many of a list's bytes there are to take
 pub mod text; // text.rt: words and numbers written out
 pub mod tried; // tried.rt: a call, told with its answer
 pub mod words; // words.rt: pseudo-random words

@@ -11,11 +11,13 @@ mod room; // room.rt: memory with no slot to spare
 mod rubbish; // rubbish.rt: memory that our calls did not make
 mod one_record; // one_record.rt: updates with one record, the first rule that it breaks
 
-fn main() {
-    refusals::refusals();
-    one_record::one_record();
-    list_lookups::list_lookups();
-    room::room();
-    rubbish::rubbish();
-    lengths::lengths();
+use std::io;
+
+fn main(rt: HostRuntime) -> io::Result<()> {
+    refusals::refusals(&rt)?;
+    one_record::one_record(&rt)?;
+    list_lookups::list_lookups(&rt)?;
+    room::room(&rt)?;
+    rubbish::rubbish(&rt)?;
+    lengths::lengths(&rt)
 }

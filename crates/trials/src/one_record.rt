@@ -1,11 +1,21 @@
 // Updates with one record: the first rule that it breaks, the edges of each rule, and /0 and /32.
+use std::io;
 use telling::change::{LOOK, announce, record, withdraw};
 use telling::text::say;
 use telling::tried::{apply_list, look_around, run};
 
 // Each record breaks one rule less than the one before.
-fn first_fault(lo: &mut [u32; 65], hi: &mut [u32; 65], up: &mut [u32; 65], hop: &mut [u32; 65]) {
-    say(b"-- update: the first rule that is broken gives the number\n");
+fn first_fault(
+    rt: &impl Print,
+    lo: &mut [u32; 65],
+    hi: &mut [u32; 65],
+    up: &mut [u32; 65],
+    hop: &mut [u32; 65],
+) -> io::Result<()> {
+    say(
+        rt,
+        b"-- update: the first rule that is broken gives the number\n",
+    )?;
     let changes = [
         record(0x0A000001, 33, 3, 257),
         record(0x0A000001, 8, 3, 257),
@@ -14,11 +24,17 @@ fn first_fault(lo: &mut [u32; 65], hi: &mut [u32; 65], up: &mut [u32; 65], hop: 
         record(0x0A000000, 8, 2, 0),
         LOOK,
     ];
-    run(lo, hi, up, hop, &changes);
+    run(rt, lo, hi, up, hop, &changes)
 }
 
-fn edges_of_rules(lo: &mut [u32; 65], hi: &mut [u32; 65], up: &mut [u32; 65], hop: &mut [u32; 65]) {
-    say(b"-- update: edges of the rules 4 to 7\n");
+fn edges_of_rules(
+    rt: &impl Print,
+    lo: &mut [u32; 65],
+    hi: &mut [u32; 65],
+    up: &mut [u32; 65],
+    hop: &mut [u32; 65],
+) -> io::Result<()> {
+    say(rt, b"-- update: edges of the rules 4 to 7\n")?;
     let changes = [
         announce(0, 255, 1),
         announce(0x80000000, 0, 1),
@@ -33,16 +49,17 @@ fn edges_of_rules(lo: &mut [u32; 65], hi: &mut [u32; 65], up: &mut [u32; 65], ho
         announce(0, 0, 0),
         LOOK,
     ];
-    run(lo, hi, up, hop, &changes);
+    run(rt, lo, hi, up, hop, &changes)
 }
 
 fn shortest_and_longest(
+    rt: &impl Print,
     lo: &mut [u32; 65],
     hi: &mut [u32; 65],
     up: &mut [u32; 65],
     hop: &mut [u32; 65],
-) {
-    say(b"-- update: /0 and /32 announced and replaced\n");
+) -> io::Result<()> {
+    say(rt, b"-- update: /0 and /32 announced and replaced\n")?;
     let changes = [
         announce(0, 0, 1),
         announce(0, 32, 2),
@@ -53,11 +70,17 @@ fn shortest_and_longest(
         announce(0xFFFFFFFF, 32, 256),
         LOOK,
     ];
-    run(lo, hi, up, hop, &changes);
+    run(rt, lo, hi, up, hop, &changes)
 }
 
-fn withdrawn(lo: &mut [u32; 65], hi: &mut [u32; 65], up: &mut [u32; 65], hop: &mut [u32; 65]) {
-    say(b"-- the same memory: /0 and /32 withdrawn\n");
+fn withdrawn(
+    rt: &impl Print,
+    lo: &mut [u32; 65],
+    hi: &mut [u32; 65],
+    up: &mut [u32; 65],
+    hop: &mut [u32; 65],
+) -> io::Result<()> {
+    say(rt, b"-- the same memory: /0 and /32 withdrawn\n")?;
     let changes = [
         withdraw(0, 0),
         LOOK,
@@ -67,36 +90,43 @@ fn withdrawn(lo: &mut [u32; 65], hi: &mut [u32; 65], up: &mut [u32; 65], hop: &m
         withdraw(0, 0),
         withdraw(0xFFFFFFFF, 32),
     ];
-    run(lo, hi, up, hop, &changes);
+    run(rt, lo, hi, up, hop, &changes)
 }
 
 // A refusal of the whole call leaves the routes as they are: the first 8 of the 15 bytes withdraw 0.0.0.0/0.
-fn odd_lists(lo: &mut [u32; 65], hi: &mut [u32; 65], up: &mut [u32; 65], hop: &mut [u32; 65]) {
-    say(b"-- the same memory: 0 bytes, 7 bytes, 15 bytes\n");
-    say(b"  0 bytes: ");
-    apply_list(lo, hi, up, hop, &[0u8; 0]);
-    say(b"  7 bytes: ");
-    apply_list(lo, hi, up, hop, &[0u8; 7]);
-    say(b"  15 bytes: ");
+fn odd_lists(
+    rt: &impl Print,
+    lo: &mut [u32; 65],
+    hi: &mut [u32; 65],
+    up: &mut [u32; 65],
+    hop: &mut [u32; 65],
+) -> io::Result<()> {
+    say(rt, b"-- the same memory: 0 bytes, 7 bytes, 15 bytes\n")?;
+    say(rt, b"  0 bytes: ")?;
+    apply_list(rt, lo, hi, up, hop, &[0u8; 0])?;
+    say(rt, b"  7 bytes: ")?;
+    apply_list(rt, lo, hi, up, hop, &[0u8; 7])?;
+    say(rt, b"  15 bytes: ")?;
     apply_list(
+        rt,
         lo,
         hi,
         up,
         hop,
         &[0u8, 0, 0, 0, 0, 2, 0, 0, 0, 0, 0, 0, 0, 2, 0],
-    );
-    look_around(lo, hi, up, hop);
+    )?;
+    look_around(rt, lo, hi, up, hop)
 }
 
 // The parts share their memory, and leave what is held to the next.
-pub fn one_record() {
+pub fn one_record(rt: &impl Print) -> io::Result<()> {
     let mut lo = [0u32; 65];
     let mut hi = [0u32; 65];
     let mut up = [0u32; 65];
     let mut hop = [0u32; 65];
-    first_fault(&mut lo, &mut hi, &mut up, &mut hop);
-    shortest_and_longest(&mut lo, &mut hi, &mut up, &mut hop);
-    odd_lists(&mut lo, &mut hi, &mut up, &mut hop);
-    withdrawn(&mut lo, &mut hi, &mut up, &mut hop);
-    edges_of_rules(&mut lo, &mut hi, &mut up, &mut hop);
+    first_fault(rt, &mut lo, &mut hi, &mut up, &mut hop)?;
+    shortest_and_longest(rt, &mut lo, &mut hi, &mut up, &mut hop)?;
+    odd_lists(rt, &mut lo, &mut hi, &mut up, &mut hop)?;
+    withdrawn(rt, &mut lo, &mut hi, &mut up, &mut hop)?;
+    edges_of_rules(rt, &mut lo, &mut hi, &mut up, &mut hop)
 }

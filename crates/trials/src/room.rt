@@ -1,12 +1,19 @@
 // Memory with no slot to spare.
 use crate::list_of_five::{LIST, put};
+use std::io;
 use telling::change::{LOOK, announce, withdraw};
 use telling::text::say;
 use telling::tried::{apply_list, look_around, run};
 
 // The default route and one of 32 bits need 33 slots.
-fn full(lo: &mut [u32; 33], hi: &mut [u32; 33], up: &mut [u32; 33], hop: &mut [u32; 33]) {
-    say(b"-- 33 slots: case J, then no slot is left\n");
+fn full(
+    rt: &impl Print,
+    lo: &mut [u32; 33],
+    hi: &mut [u32; 33],
+    up: &mut [u32; 33],
+    hop: &mut [u32; 33],
+) -> io::Result<()> {
+    say(rt, b"-- 33 slots: case J, then no slot is left\n")?;
     let changes = [
         announce(0, 0, 1),
         announce(0xFFFFFFFF, 32, 2),
@@ -19,11 +26,17 @@ fn full(lo: &mut [u32; 33], hi: &mut [u32; 33], up: &mut [u32; 33], hop: &mut [u
         announce(0xFFFFFFFF, 32, 5),
         LOOK,
     ];
-    run(lo, hi, up, hop, &changes);
+    run(rt, lo, hi, up, hop, &changes)
 }
 
-fn freed(lo: &mut [u32; 33], hi: &mut [u32; 33], up: &mut [u32; 33], hop: &mut [u32; 33]) {
-    say(b"-- the same memory: room freed serves another route\n");
+fn freed(
+    rt: &impl Print,
+    lo: &mut [u32; 33],
+    hi: &mut [u32; 33],
+    up: &mut [u32; 33],
+    hop: &mut [u32; 33],
+) -> io::Result<()> {
+    say(rt, b"-- the same memory: room freed serves another route\n")?;
     let changes = [
         // Frees 30 slots: all but those of 0.0.0.0/0, 128.0.0.0/1 and 192.0.0.0/2.
         withdraw(0xFFFFFFFF, 32),
@@ -38,7 +51,7 @@ fn freed(lo: &mut [u32; 33], hi: &mut [u32; 33], up: &mut [u32; 33], hop: &mut [
         announce(0x80000000, 1, 9),
         LOOK,
     ];
-    run(lo, hi, up, hop, &changes);
+    run(rt, lo, hi, up, hop, &changes)
 }
 
 // Room is freed and taken again within one list: only the ledger after each record decides.
@@ -51,36 +64,44 @@ fn put_in_turn(list: &mut [u8; LIST]) {
 }
 
 fn apply_in_turn(
+    rt: &impl Print,
     lo: &mut [u32; 33],
     hi: &mut [u32; 33],
     up: &mut [u32; 33],
     hop: &mut [u32; 33],
     list: &[u8; LIST],
-) {
+) -> io::Result<()> {
     say(
+        rt,
         b"-- 33 slots: 0.0.0.0/0 1, 255.255.255.255/32 2 and its withdrawal, 0.0.0.0/32 3, withdrawal of 0.0.0.0/0, in one list\n",
-    );
-    say(b"  the list: ");
-    apply_list(lo, hi, up, hop, list);
-    look_around(lo, hi, up, hop);
-    say(b"  the list again: ");
-    apply_list(lo, hi, up, hop, list);
-    look_around(lo, hi, up, hop);
+    )?;
+    say(rt, b"  the list: ")?;
+    apply_list(rt, lo, hi, up, hop, list)?;
+    look_around(rt, lo, hi, up, hop)?;
+    say(rt, b"  the list again: ")?;
+    apply_list(rt, lo, hi, up, hop, list)?;
+    look_around(rt, lo, hi, up, hop)
 }
 
-fn in_turn() {
+fn in_turn(rt: &impl Print) -> io::Result<()> {
     let mut lo = [0u32; 33];
     let mut hi = [0u32; 33];
     let mut up = [0u32; 33];
     let mut hop = [0u32; 33];
     let mut list = [0u8; LIST];
     put_in_turn(&mut list);
-    apply_in_turn(&mut lo, &mut hi, &mut up, &mut hop, &list);
+    apply_in_turn(rt, &mut lo, &mut hi, &mut up, &mut hop, &list)
 }
 
 // Case J in one slot less; the route that is refused leaves its 31 slots to others.
-fn too_small(lo: &mut [u32; 32], hi: &mut [u32; 32], up: &mut [u32; 32], hop: &mut [u32; 32]) {
-    say(b"-- 32 slots: case J is refused, and leaves no trace\n");
+fn too_small(
+    rt: &impl Print,
+    lo: &mut [u32; 32],
+    hi: &mut [u32; 32],
+    up: &mut [u32; 32],
+    hop: &mut [u32; 32],
+) -> io::Result<()> {
+    say(rt, b"-- 32 slots: case J is refused, and leaves no trace\n")?;
     let changes = [
         announce(0, 0, 1),
         announce(0xFFFFFFFF, 32, 2),
@@ -93,11 +114,17 @@ fn too_small(lo: &mut [u32; 32], hi: &mut [u32; 32], up: &mut [u32; 32], hop: &m
         announce(0x80000000, 31, 4),
         LOOK,
     ];
-    run(lo, hi, up, hop, &changes);
+    run(rt, lo, hi, up, hop, &changes)
 }
 
-fn single(lo: &mut [u32; 1], hi: &mut [u32; 1], up: &mut [u32; 1], hop: &mut [u32; 1]) {
-    say(b"-- 1 slot: only /0 fits\n");
+fn single(
+    rt: &impl Print,
+    lo: &mut [u32; 1],
+    hi: &mut [u32; 1],
+    up: &mut [u32; 1],
+    hop: &mut [u32; 1],
+) -> io::Result<()> {
+    say(rt, b"-- 1 slot: only /0 fits\n")?;
     let changes = [
         announce(0, 1, 1),
         announce(0, 0, 2),
@@ -110,11 +137,20 @@ fn single(lo: &mut [u32; 1], hi: &mut [u32; 1], up: &mut [u32; 1], hop: &mut [u3
         withdraw(0, 0),
         LOOK,
     ];
-    run(lo, hi, up, hop, &changes);
+    run(rt, lo, hi, up, hop, &changes)
 }
 
-fn discards(lo: &mut [u32; 3], hi: &mut [u32; 3], up: &mut [u32; 3], hop: &mut [u32; 3]) {
-    say(b"-- 3 slots: a discard is held, needs its slots and hides the shorter route\n");
+fn discards(
+    rt: &impl Print,
+    lo: &mut [u32; 3],
+    hi: &mut [u32; 3],
+    up: &mut [u32; 3],
+    hop: &mut [u32; 3],
+) -> io::Result<()> {
+    say(
+        rt,
+        b"-- 3 slots: a discard is held, needs its slots and hides the shorter route\n",
+    )?;
     let changes = [
         announce(0, 0, 1),
         announce(0x40000000, 2, 0),
@@ -128,46 +164,46 @@ fn discards(lo: &mut [u32; 3], hi: &mut [u32; 3], up: &mut [u32; 3], hop: &mut [
         announce(0x80000000, 1, 2),
         LOOK,
     ];
-    run(lo, hi, up, hop, &changes);
+    run(rt, lo, hi, up, hop, &changes)
 }
 
-fn in_33_slots() {
+fn in_33_slots(rt: &impl Print) -> io::Result<()> {
     let mut lo = [0u32; 33];
     let mut hi = [0u32; 33];
     let mut up = [0u32; 33];
     let mut hop = [0u32; 33];
-    full(&mut lo, &mut hi, &mut up, &mut hop);
-    freed(&mut lo, &mut hi, &mut up, &mut hop);
+    full(rt, &mut lo, &mut hi, &mut up, &mut hop)?;
+    freed(rt, &mut lo, &mut hi, &mut up, &mut hop)
 }
 
-fn in_32_slots() {
+fn in_32_slots(rt: &impl Print) -> io::Result<()> {
     let mut lo = [0u32; 32];
     let mut hi = [0u32; 32];
     let mut up = [0u32; 32];
     let mut hop = [0u32; 32];
-    too_small(&mut lo, &mut hi, &mut up, &mut hop);
+    too_small(rt, &mut lo, &mut hi, &mut up, &mut hop)
 }
 
-fn in_1_slot() {
+fn in_1_slot(rt: &impl Print) -> io::Result<()> {
     let mut lo = [0u32; 1];
     let mut hi = [0u32; 1];
     let mut up = [0u32; 1];
     let mut hop = [0u32; 1];
-    single(&mut lo, &mut hi, &mut up, &mut hop);
+    single(rt, &mut lo, &mut hi, &mut up, &mut hop)
 }
 
-fn in_3_slots() {
+fn in_3_slots(rt: &impl Print) -> io::Result<()> {
     let mut lo = [0u32; 3];
     let mut hi = [0u32; 3];
     let mut up = [0u32; 3];
     let mut hop = [0u32; 3];
-    discards(&mut lo, &mut hi, &mut up, &mut hop);
+    discards(rt, &mut lo, &mut hi, &mut up, &mut hop)
 }
 
-pub fn room() {
-    in_33_slots();
-    in_turn();
-    in_32_slots();
-    in_1_slot();
-    in_3_slots();
+pub fn room(rt: &impl Print) -> io::Result<()> {
+    in_33_slots(rt)?;
+    in_turn(rt)?;
+    in_32_slots(rt)?;
+    in_1_slot(rt)?;
+    in_3_slots(rt)
 }

@@ -11,10 +11,12 @@ mod slices; // slices.rt: slices that are lent in wrong or extreme lengths
 mod trial; // trial.rt: a run of changes in fresh memory, with writings between them
 mod written; // written.rt: a writing, told with what it left
 
-fn main() {
-    cases::cases();
-    discards::discards();
-    slices::slices();
-    memories::memories();
-    runs::runs();
+use std::io;
+
+fn main(rt: HostRuntime) -> io::Result<()> {
+    cases::cases(&rt)?;
+    discards::discards(&rt)?;
+    slices::slices(&rt)?;
+    memories::memories(&rt)?;
+    runs::runs(&rt)
 }

@@ -1,6 +1,7 @@
 // Runs of changes that are made by rule: pseudo-random ones, every hop at once, and every length at once.
 use crate::trial::{WRITE, trial};
 use crate::written::MOST_ROOM;
+use std::io;
 use telling::change::{announce, withdraw};
 use telling::text::{say, say_number};
 use telling::words::next_word;
@@ -101,35 +102,35 @@ fn fill(changes: &mut [u64], rule: Rule, seed: u32) {
     }
 }
 
-fn random(seed: u32, slots: usize) {
+fn random(rt: &impl Print, seed: u32, slots: usize) -> io::Result<()> {
     let mut changes = [0u64; 42];
     fill(&mut changes, Rule::Random, seed);
-    say(b"-- seed ");
-    say_number(seed as u64);
-    say(b"\n");
-    trial(b"pseudo-random changes", slots, MOST_ROOM, &changes);
+    say(rt, b"-- seed ")?;
+    say_number(rt, seed as u64)?;
+    say(rt, b"\n")?;
+    trial(rt, b"pseudo-random changes", slots, MOST_ROOM, &changes)
 }
 
-fn every_hop() {
+fn every_hop(rt: &impl Print) -> io::Result<()> {
     let mut changes = [0u64; 260];
     fill(&mut changes, Rule::EveryHop, 0);
-    trial(b"every hop", 512, MOST_ROOM, &changes);
+    trial(rt, b"every hop", 512, MOST_ROOM, &changes)
 }
 
-fn every_length() {
+fn every_length(rt: &impl Print) -> io::Result<()> {
     let mut changes = [0u64; 34];
     fill(&mut changes, Rule::EveryLength, 0);
-    trial(b"every length", 33, MOST_ROOM, &changes);
+    trial(rt, b"every length", 33, MOST_ROOM, &changes)
 }
 
-pub fn runs() {
-    every_hop();
-    every_length();
+pub fn runs(rt: &impl Print) -> io::Result<()> {
+    every_hop(rt)?;
+    every_length(rt)?;
     // Seeds with much to join: of some 13 routes and then some 22, about two in three are written, hop 0 each time among them. A
     // default route is held at both writings, at the second, at neither, at the first, and at the second.
-    random(208, 200);
-    random(1950, 120);
-    random(1574, 80);
-    random(197, 50);
-    random(2433, 50);
+    random(rt, 208, 200)?;
+    random(rt, 1950, 120)?;
+    random(rt, 1574, 80)?;
+    random(rt, 197, 50)?;
+    random(rt, 2433, 50)
 }

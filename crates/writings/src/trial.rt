@@ -1,5 +1,6 @@
 // A run of changes with writings between them, in fresh memory.
 use crate::written::{Lent, SLOTS, least, scratch_for, write};
+use std::io;
 use telling::text::{say, say_count};
 
 // In a run of changes, not a record: write the table.
@@ -9,28 +10,37 @@ pub const WRITE: u64 = 0xFFFFFFFFFFFFFFFE;
 pub const ONES: u64 = 0xFFFFFFFFFFFFFFFF;
 
 // A record is applied, or the ledger is looked at or written.
-fn go(lo: &mut [u32], hi: &mut [u32], up: &mut [u32], hop: &mut [u32], change: u64, lent: Lent) {
+fn go(
+    rt: &impl Print,
+    lo: &mut [u32],
+    hi: &mut [u32],
+    up: &mut [u32],
+    hop: &mut [u32],
+    change: u64,
+    lent: Lent,
+) -> io::Result<()> {
     if change == WRITE {
-        write(lo, hi, up, hop, lent);
-        return;
+        return write(rt, lo, hi, up, hop, lent);
     }
-    telling::tried::go(lo, hi, up, hop, change);
+    telling::tried::go(rt, lo, hi, up, hop, change)
 }
 
 // Changes are tried one after the other.
 pub fn run(
+    rt: &impl Print,
     lo: &mut [u32],
     hi: &mut [u32],
     up: &mut [u32],
     hop: &mut [u32],
     changes: &[u64],
     lent: Lent,
-) {
+) -> io::Result<()> {
     let mut i: usize = 0;
     while i < changes.len() {
-        go(lo, hi, up, hop, changes[i], lent);
+        go(rt, lo, hi, up, hop, changes[i], lent)?;
         i += 1;
     }
+    Ok(())
 }
 
 // How many elements are lent in each slice of a memory.
@@ -52,7 +62,7 @@ pub fn same_lengths(slots: usize) -> Lengths {
 }
 
 // The changes in zeroed memory of these lengths.
-pub fn lend(lengths: Lengths, lent: Lent, changes: &[u64]) {
+pub fn lend(rt: &impl Print, lengths: Lengths, lent: Lent, changes: &[u64]) -> io::Result<()> {
     let mut lo = [0u32; SLOTS];
     let mut hi = [0u32; SLOTS];
     let mut up = [0u32; SLOTS];
@@ -62,25 +72,33 @@ pub fn lend(lengths: Lengths, lent: Lent, changes: &[u64]) {
     let up_end = least(lengths.up, SLOTS);
     let hop_end = least(lengths.hop, SLOTS);
     run(
+        rt,
         &mut lo[..lo_end],
         &mut hi[..hi_end],
         &mut up[..up_end],
         &mut hop[..hop_end],
         changes,
         lent,
-    );
+    )
 }
 
 // The changes in so many slots, with a scratch full of ones and an output of `room` bytes.
-pub fn trial(title: &[u8], slots: usize, room: usize, changes: &[u64]) {
-    say(b"-- ");
-    say(title);
-    say(b"; slots ");
-    say_count(slots);
-    say(b", output ");
-    say_count(room);
-    say(b" bytes\n");
+pub fn trial(
+    rt: &impl Print,
+    title: &[u8],
+    slots: usize,
+    room: usize,
+    changes: &[u64],
+) -> io::Result<()> {
+    say(rt, b"-- ")?;
+    say(rt, title)?;
+    say(rt, b"; slots ")?;
+    say_count(rt, slots)?;
+    say(rt, b", output ")?;
+    say_count(rt, room)?;
+    say(rt, b" bytes\n")?;
     lend(
+        rt,
         same_lengths(slots),
         Lent {
             words: scratch_for(slots),
@@ -88,5 +106,5 @@ pub fn trial(title: &[u8], slots: usize, room: usize, changes: &[u64]) {
             room,
         },
         changes,
-    );
+    )
 }

@@ -1,11 +1,12 @@
 // A writing, told with what it left: the answer, the scratch, the output behind the table, and the table itself, which is then looked
 // up, loaded into fresh memory and written again.
 ghost use Rattle.std.specs.Prelude.{◌+◌, ◌≤◌, length};
-ghost use Rattle.io.specs.Counts.{IsPrefixLen};
+ghost use Rattle.telling.specs.Counts.{IsPrefixLen};
 
-use libc::STDOUT_FILENO;
 use numbers::{RECORD, SET_WORDS};
+use std::io;
 use telling::change::{record_at, say_change};
+use telling::counts::prefix_len;
 use telling::text::{say, say_count, say_refused};
 use telling::tried::{apply_list, look_around, look_around_list};
 use writing::Wrote;
@@ -33,16 +34,16 @@ pub fn least(a: usize, b: usize) -> usize
     b
 }
 
-fn say_wrote(answer: Wrote) {
+fn say_wrote(rt: &impl Print, answer: Wrote) -> io::Result<()> {
     match answer {
         Wrote::Table { count } => {
-            say(b"written, count ");
-            say_count(count);
+            say(rt, b"written, count ")?;
+            say_count(rt, count)
         }
         Wrote::Refused { number, count } => {
-            say_refused(number);
-            say(b", count ");
-            say_count(count);
+            say_refused(rt, number)?;
+            say(rt, b", count ")?;
+            say_count(rt, count)
         }
     }
 }
@@ -71,7 +72,7 @@ fn table_bytes(answer: Wrote, output: &[u8]) -> usize
     match answer {
         Wrote::Table { count } => {
             let records = least(count, output.len() / RECORD);
-            io::count((records * RECORD) as isize, output)
+            prefix_len((records * RECORD) as isize, output)
         }
         Wrote::Refused {
             number: _,
@@ -106,84 +107,86 @@ fn each_is(words: &[u64], word: u64) -> bool {
 }
 
 // What was made of the scratch, and of the output behind the table.
-fn say_left(scratch: &[u64], fill: u64, rest: &[u8]) {
+fn say_left(rt: &impl Print, scratch: &[u64], fill: u64, rest: &[u8]) -> io::Result<()> {
     if each_is(scratch, 0) {
-        say(b"; scratch zero");
+        say(rt, b"; scratch zero")?;
     } else if each_is(scratch, fill) {
-        say(b"; scratch as it was");
+        say(rt, b"; scratch as it was")?;
     } else {
-        say(b"; scratch changed");
+        say(rt, b"; scratch changed")?;
     }
     let blank = [BLANK; MOST_ROOM];
-    let count = io::count(rest.len() as isize, &blank);
+    let count = prefix_len(rest.len() as isize, &blank);
     if same(rest, &blank[..count]) {
-        say(b"; rest of output as it was\n");
+        say(rt, b"; rest of output as it was\n")
     } else {
-        say(b"; rest of output changed\n");
+        say(rt, b"; rest of output changed\n")
     }
 }
 
 // Two digits for a byte, as document 01 writes it.
-fn say_byte(byte: u8) {
-    io::print_hex(STDOUT_FILENO, byte as u64, 2);
-    say(b" ");
+fn say_byte(rt: &impl Print, byte: u8) -> io::Result<()> {
+    print!(rt; "{byte:02x}")?;
+    say(rt, b" ")
 }
 
-fn say_half(table: &[u8], at: usize)
+fn say_half(rt: &impl Print, table: &[u8], at: usize) -> io::Result<()>
     requires { at + 4 ≤ length table.now }
 {
-    say_byte(table[at]);
-    say_byte(table[at + 1]);
-    say_byte(table[at + 2]);
-    say_byte(table[at + 3]);
+    say_byte(rt, table[at])?;
+    say_byte(rt, table[at + 1])?;
+    say_byte(rt, table[at + 2])?;
+    say_byte(rt, table[at + 3])
 }
 
 // A record byte by byte, and in words.
-fn say_record(table: &[u8], at: usize)
+fn say_record(rt: &impl Print, table: &[u8], at: usize) -> io::Result<()>
     requires { at + 8 ≤ length table.now }
 {
-    say(b"    ");
-    say_half(table, at);
-    say_half(table, at + 4);
-    say_change(record_at(table, at));
-    say(b"\n");
+    say(rt, b"    ")?;
+    say_half(rt, table, at)?;
+    say_half(rt, table, at + 4)?;
+    say_change(rt, record_at(table, at))?;
+    say(rt, b"\n")
 }
 
-fn say_table(table: &[u8]) {
+fn say_table(rt: &impl Print, table: &[u8]) -> io::Result<()> {
     let mut at: usize = 0;
     while table.len() - at >= RECORD {
-        say_record(table, at);
+        say_record(rt, table, at)?;
         at += RECORD;
     }
+    Ok(())
 }
 
-fn say_whether_same(table: &[u8], answer: Wrote, output: &[u8]) {
+fn say_whether_same(rt: &impl Print, table: &[u8], answer: Wrote, output: &[u8]) -> io::Result<()> {
     let end = table_bytes(answer, output);
     if same(table, &output[..end]) {
-        say(b", the same bytes\n");
+        say(rt, b", the same bytes\n")
     } else {
-        say(b", other bytes\n");
+        say(rt, b", other bytes\n")
     }
 }
 
 // The table is loaded into fresh memory and written again.
-fn write_again(table: &[u8]) {
+fn write_again(rt: &impl Print, table: &[u8]) -> io::Result<()> {
     let mut lo = [0u32; SLOTS];
     let mut hi = [0u32; SLOTS];
     let mut up = [0u32; SLOTS];
     let mut hop = [0u32; SLOTS];
     let mut scratch = [0u64; SCRATCH];
     let mut output = [BLANK; MOST_ROOM];
-    say(b"    loaded: ");
-    apply_list(&mut lo, &mut hi, &mut up, &mut hop, table);
-    say(b"    again: ");
+    say(rt, b"    loaded: ")?;
+    apply_list(rt, &mut lo, &mut hi, &mut up, &mut hop, table)?;
+    say(rt, b"    again: ")?;
     let answer = writing::write(&lo, &hi, &up, &hop, &mut scratch, &mut output);
-    say_wrote(answer);
-    say_whether_same(table, answer, &output);
+    say_wrote(rt, answer)?;
+    say_whether_same(rt, table, answer, &output)
 }
 
 // The ledger is written, with the scratch and the output that are lent; each word of the scratch was `fill`.
 pub fn tell(
+    rt: &impl Print,
     lo: &[u32],
     hi: &[u32],
     up: &[u32],
@@ -191,19 +194,20 @@ pub fn tell(
     scratch: &mut [u64],
     output: &mut [u8],
     fill: u64,
-) {
+) -> io::Result<()> {
     let answer = writing::write(lo, hi, up, hop, scratch, output);
-    say(b"  ");
-    say_wrote(answer);
+    say(rt, b"  ")?;
+    say_wrote(rt, answer)?;
     let end = table_bytes(answer, output);
-    say_left(scratch, fill, &output[end..]);
+    say_left(rt, scratch, fill, &output[end..])?;
     if is_table(answer) {
         let table = &output[..end];
-        say_table(table);
-        look_around(lo, hi, up, hop);
-        look_around_list(table);
-        write_again(table);
+        say_table(rt, table)?;
+        look_around(rt, lo, hi, up, hop)?;
+        look_around_list(rt, table)?;
+        write_again(rt, table)?;
     }
+    Ok(())
 }
 
 // What is lent to a writing beside the memory: a scratch of so many words, each of them `fill`, and an output of `room` bytes.
@@ -215,13 +219,21 @@ pub struct Lent {
 }
 
 // The ledger is written, and what is lent beside it lasts for that call.
-pub fn write(lo: &[u32], hi: &[u32], up: &[u32], hop: &[u32], lent: Lent) {
+pub fn write(
+    rt: &impl Print,
+    lo: &[u32],
+    hi: &[u32],
+    up: &[u32],
+    hop: &[u32],
+    lent: Lent,
+) -> io::Result<()> {
     let fill = lent.fill;
     let words = least(lent.words, SCRATCH);
     let room = least(lent.room, MOST_ROOM);
     let mut scratch = [fill; SCRATCH];
     let mut output = [BLANK; MOST_ROOM];
     tell(
+        rt,
         lo,
         hi,
         up,
@@ -229,5 +241,5 @@ pub fn write(lo: &[u32], hi: &[u32], up: &[u32], hop: &[u32], lent: Lent) {
         &mut scratch[..words],
         &mut output[..room],
         fill,
-    );
+    )
 }

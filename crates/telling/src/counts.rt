@@ -1,0 +1,14 @@
+// How many of a list's bytes there are to take.
+ghost use Rattle.std.specs.Prelude.{◌≡◌, length};
+ghost use Rattle.telling.specs.Counts.{IsPrefixLen, clamp_len};
+
+// As many of the list's first bytes as are asked for and are there; none where the number asked for is below 0.
+pub fn prefix_len(asked: isize, list: &[u8]) -> usize
+    ensures in_bounds { IsPrefixLen result list.now }
+    ensures value { result ≡ clamp_len asked (length list.now) }
+{
+    if asked < 0 {
+        return 0;
+    }
+    (asked as usize).min(list.len())
+}
