@@ -1,4 +1,4 @@
-//! Links the static libraries that `rt staticlib arvandish` and `rt staticlib arvandish_ledger` make.
+//! Links the static libraries that doors/archives makes.
 use std::path::Path;
 
 fn main() {

@@ -1,7 +1,7 @@
 /*
  * arvandish.h - the smallest IPv4 route table, for a forwarding daemon. This header is the whole manual.
  *
- * Build     rt staticlib arvandish          makes target/staticlib/libarvandish.a
+ * Build     bash doors/archives            makes target/staticlib/libarvandish.a
  * Link      cc daemon.c -Iinclude target/staticlib/libarvandish.a
  *           (x86-64 Linux; from libc it needs memset and nothing else)
  *

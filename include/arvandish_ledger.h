@@ -4,7 +4,7 @@
  * For our own tool, tests and benchmarks. It is not offered to the forwarding daemon: that one uses arvandish.h, which also has
  * the records and the numbers that are used here.
  *
- * Build     rt staticlib arvandish_ledger   makes target/staticlib/libarvandish_ledger.a
+ * Build     bash doors/archives            makes target/staticlib/libarvandish_ledger.a
  *
  * MEMORY. A ledger lives in four slices of uint32_t, `lo`, `hi`, `up` and `hop`, with one element a slot each: 1 to 1,048,576 slots.
  * Zeroed memory is the empty ledger. docs/LAYOUT.md says what the elements mean; a caller need not know. Lend the same four slices,
