@@ -1,7 +1,7 @@
 #!/usr/bin/env python3
 """Turns the proof files of the older Rattle (proofs/F/Proof.antt, a term for each need in order) into Invariants.antt and Answers.antt.
 
-    cd crates/NAME; rt check --generated /tmp/names-NAME --old-names; python3 ../../tools/to_answers.py /tmp/names-NAME/names.json [FUNCTION ..]
+    cd crates/NAME; rt check --generated FOLDER --old-names; python3 ../../tools/to_answers.py FOLDER/names.json [FUNCTION ..]
 
 An answer that was only `search rules` goes, as the check tries that by itself. The paths into the known facts become flat. What is left to
 mend, the check says. Written for the port (docs/PORT.md)."""

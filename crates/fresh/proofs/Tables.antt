@@ -47,7 +47,7 @@ module _ (n : ℕ) (some_slot : 0 < n) (few : n ≤ most_slots) (list output : L
     fine : write_fault m scratch ≡ none
     fine =
         fault_none m scratch (complete.no_2_later (zeroed_fine n some_slot few))
-        (sized ∙ ap scratch_words (sym (complete.same_lengths_lem.ups ∙ zeroed_slots n)))
+        (sized ∙ ap scratch_words (sym (complete.same_lengths.ups ∙ zeroed_slots n)))
 
     abbrev T : List Entry
     T = smallest_table ipv4 (ledger_of (width ipv4) m)

@@ -58,7 +58,7 @@ module _ (n : ℕ) (m : Memory) (fine : lent_fault m ≡ none) (sized : slots m.
   one_call a m' r (update list _ u meets) = record {
     reply = ap updated_so (meets.answer ∙ ap reported (updates_so list));
     ledger = meets.ledger ∙ ap (λ a. a.ledger) (updates_so list);
-    same_slots = meets.same_lengths_lem.ups ∙ sized;
+    same_slots = meets.same_lengths.ups ∙ sized;
     let_through = meets.no_2_later fine;
   }
   one_call a m' r (lookup x f meets) = record {

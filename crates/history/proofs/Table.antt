@@ -71,7 +71,7 @@ module _ (L : Ledger ℕ) (ok : WithinRules (width ipv4) L) where
         → Same r scratch' output' (Table (length T)) (zeros (length scratch)) (bytes ++ drop (length bytes) output)
     written_again scratch output scratch' output' r meets sized room =
         written_from m scratch output scratch' output' r meets
-        (fault_none m scratch (taken.no_2_later (zeroed_fine n lent few)) (sized ∙ ap scratch_words (sym (taken.same_lengths_lem.ups ∙ zeroed_slots n))))
+        (fault_none m scratch (taken.no_2_later (zeroed_fine n lent few)) (sized ∙ ap scratch_words (sym (taken.same_lengths.ups ∙ zeroed_slots n))))
         T (ap (smallest_table ipv4) holds_it ∙ all.again) room
 
   pub is_smallest : IsSmallest L (length T) bytes

@@ -44,7 +44,7 @@ pub by_update : (c : Case) → Holds c → c.result.refusal ≡ none → (n : �
     → (scratch : List ℕ) → length scratch ≡ scratch_words n → HoldsCase c m scratch
 by_update c holds quiet n some_slot enough few m u meets scratch sized =
     record {
-      let_through = fault_none m scratch (meets.no_2_later (zeroed_fine n some_slot few)) (sized ∙ ap scratch_words (sym (meets.same_lengths_lem.ups ∙ zeroed_slots n)));
+      let_through = fault_none m scratch (meets.no_2_later (zeroed_fine n some_slot few)) (sized ∙ ap scratch_words (sym (meets.same_lengths.ups ∙ zeroed_slots n)));
       ledger =
           meets.ledger
           ∙ ap (λ a. a.ledger)

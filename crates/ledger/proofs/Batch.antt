@@ -84,7 +84,7 @@ module _ (m : Memory) (list : List ℕ) (r : ℕ) (fault : FaultOf m r) where
         answer = rw is;
         ledger = rw is;
         untouched = λ z room. refl;
-        same_lengths_lem = same_self m;
+        same_lengths = same_self m;
         no_2_later = λ e. e;
         tidy = λ t. t;
       }
@@ -102,7 +102,7 @@ module _ (m : Memory) (list : List ℕ) (r : ℕ) (fault : FaultOf m r) where
       answer = rw (fine, ne_eqb (length list % record_bytes ipv4) 0 other);
       ledger = rw (fine, ne_eqb (length list % record_bytes ipv4) 0 other);
       untouched = λ z room. refl;
-      same_lengths_lem = same_self m;
+      same_lengths = same_self m;
       no_2_later = λ e. e;
       tidy = λ t. t;
     }
@@ -184,7 +184,7 @@ module _ (m : Memory) (list : List ℕ) (r : ℕ) (fault : FaultOf m r) where
                 ledger = rw fine ((one.refused_so other).1 ∙ ap (λ x. x.ledger) (sym is));
                 untouched = rw fine (λ z room.
                     one.untouched other (λ q. room (ap (λ x. x.refusal) is ∙ ap some q)) ∙ a.at_start (sym (ap (λ x. x.count) is) ∙ z));
-                same_lengths_lem = kept_lengths m m'' memory_whole (kept_then m m' m'' a.kept one.kept);
+                same_lengths = kept_lengths m m'' memory_whole (kept_then m m' m'' a.kept one.kept);
                 no_2_later = kept_fault m m'' memory_whole (kept_then m m' m'' a.kept one.kept);
                 tidy = λ t. one.tidied (a.tidied t);
               }
@@ -201,7 +201,7 @@ module _ (m : Memory) (list : List ℕ) (r : ℕ) (fault : FaultOf m r) where
               answer = rw fine (ap reported (sym is));
               ledger = rw fine (ap (λ x. x.ledger) (sym is));
               untouched = rw fine (λ z room. a.at_start (sym (ap (λ x. x.count) is) ∙ z));
-              same_lengths_lem = kept_lengths m m' memory_whole a.kept;
+              same_lengths = kept_lengths m m' memory_whole a.kept;
               no_2_later = kept_fault m m' memory_whole a.kept;
               tidy = a.tidied;
             }

@@ -55,7 +55,7 @@ module _ (n : ℕ) (some_slot : 0 < n) (few : n ≤ most_slots) where
             ∙ sym (ledger_after before m list r u was.let_through))
             (after was.plain list);
         tidy = u.tidy was.tidy;
-        same_slots = u.same_lengths_lem.ups ∙ was.same_slots;
+        same_slots = u.same_lengths.ups ∙ was.same_slots;
       }
 
   -- NO SLOT IS SEARCHED FOR before the memory is full: where any slot is free, the chain's first one is

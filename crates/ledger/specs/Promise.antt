@@ -47,7 +47,7 @@ pub record Updates (m : Memory) (list : List ℕ) (m' : Memory) (r : Updated) : 
   pub ledger : ledger_of (width ipv4) m' ≡ (update_of m list).ledger
   -- where no record was applied, and none was refused for want of room, every element is as it was: so 1, 2 and 3 change nothing
   pub untouched : (update_of m list).count ≡ 0 → ((update_of m list).refusal ≡ some no_slots → ⊥) → m' ≡ m
-  pub same_lengths_lem : SameLengths m m'
+  pub same_lengths : SameLengths m m'
   -- what holds a ledger goes on holding one, and tidy memory stays tidy: with its ledger it is then fixed but for which slot a
   -- string lies in and the chain of free slots
   pub no_2_later : lent_fault m ≡ none → lent_fault m' ≡ none

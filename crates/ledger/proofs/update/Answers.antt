@@ -25,16 +25,16 @@ returns-then-number-ne0 c =
     stopped _ _ _ c.fault-fault.ensures c.if-fault-ne0.false c.if-list-ne0.false _ _ _ c.loop-at.invariant c.loop-at-test.true _ _ c.apply_record-number.ensures c.if-number-ne0.true
 
 pub shape_of-lo-then-number-ne0 : goal.shape_of-lo-then-number-ne0
-shape_of-lo-then-number-ne0 c = (returns-then-number-ne0 c).same_lengths_lem.los
+shape_of-lo-then-number-ne0 c = (returns-then-number-ne0 c).same_lengths.los
 
 pub shape_of-hi-then-number-ne0 : goal.shape_of-hi-then-number-ne0
-shape_of-hi-then-number-ne0 c = (returns-then-number-ne0 c).same_lengths_lem.his
+shape_of-hi-then-number-ne0 c = (returns-then-number-ne0 c).same_lengths.his
 
 pub shape_of-up-then-number-ne0 : goal.shape_of-up-then-number-ne0
-shape_of-up-then-number-ne0 c = (returns-then-number-ne0 c).same_lengths_lem.ups
+shape_of-up-then-number-ne0 c = (returns-then-number-ne0 c).same_lengths.ups
 
 pub shape_of-hop-then-number-ne0 : goal.shape_of-hop-then-number-ne0
-shape_of-hop-then-number-ne0 c = (returns-then-number-ne0 c).same_lengths_lem.hops
+shape_of-hop-then-number-ne0 c = (returns-then-number-ne0 c).same_lengths.hops
 
 pub overflow_add-at : goal.overflow_add-at
 overflow_add-at c =
@@ -57,13 +57,13 @@ returns c =
     finished _ _ _ c.fault-fault.ensures c.if-fault-ne0.false c.if-list-ne0.false _ _ _ c.loop-at.invariant c.loop-at-test.false
 
 pub shape_of-lo : goal.shape_of-lo
-shape_of-lo c = (returns c).same_lengths_lem.los
+shape_of-lo c = (returns c).same_lengths.los
 
 pub shape_of-hi : goal.shape_of-hi
-shape_of-hi c = (returns c).same_lengths_lem.his
+shape_of-hi c = (returns c).same_lengths.his
 
 pub shape_of-up : goal.shape_of-up
-shape_of-up c = (returns c).same_lengths_lem.ups
+shape_of-up c = (returns c).same_lengths.ups
 
 pub shape_of-hop : goal.shape_of-hop
-shape_of-hop c = (returns c).same_lengths_lem.hops
+shape_of-hop c = (returns c).same_lengths.hops

@@ -1,5 +1,0 @@
-pub mod Numbers
-pub mod Records
-pub mod Plain
-pub mod Lookup
-pub mod Writing
