@@ -17,7 +17,7 @@ returns-then-hop-count c =
 
 pub returns-then-count-eq0 : goal.returns-then-count-eq0
 returns-then-count-eq0 c =
-    fault_slices _ (λ g. g.some_slot c.if-count-eq0.true)
+    fault_slices _ (λ g. absurd (omega (arith, g.some_slot, c.if-count-eq0.true)))
 
 pub returns-then-count-gt-MOST_SLOTS : goal.returns-then-count-gt-MOST_SLOTS
 returns-then-count-gt-MOST_SLOTS c =
@@ -25,8 +25,8 @@ returns-then-count-gt-MOST_SLOTS c =
 
 pub returns-then-wide-count : goal.returns-then-wide-count
 returns-then-wide-count c =
-    fault_ledger _ record { los = c.if-lo-count.false; his = c.if-hi-count.false; hops = c.if-hop-count.false; some_slot = c.if-count-eq0.false; few = c.if-count-gt-MOST_SLOTS.false } (omega (arith, c.if-wide-count.true, c.wide.ensures))
+    fault_ledger _ record { los = c.if-lo-count.false; his = c.if-hi-count.false; hops = c.if-hop-count.false; some_slot = λ e. absurd (omega (arith, e, c.if-count-eq0.false)); few = c.if-count-gt-MOST_SLOTS.false } (omega (arith, c.if-wide-count.true, c.wide.ensures))
 
 pub returns : goal.returns
 returns c =
-    no_fault _ record { los = c.if-lo-count.false; his = c.if-hi-count.false; hops = c.if-hop-count.false; some_slot = c.if-count-eq0.false; few = c.if-count-gt-MOST_SLOTS.false } (omega (arith, c.if-wide-count.false, c.wide.ensures))
+    no_fault _ record { los = c.if-lo-count.false; his = c.if-hi-count.false; hops = c.if-hop-count.false; some_slot = λ e. absurd (omega (arith, e, c.if-count-eq0.false)); few = c.if-count-gt-MOST_SLOTS.false } (omega (arith, c.if-wide-count.false, c.wide.ensures))

@@ -5,7 +5,7 @@ use Rattle.memory.proofs.holds.Goals as goal
 
 pub returns-then-stored-eq0 : goal.returns-then-stored-eq0
 returns-then-stored-eq0 c =
-    holds_none _ c.if-stored-eq0.true
+    holds_none _ (omega (arith, c.if-stored-eq0.true))
 
 pub returns : goal.returns
 returns c =

@@ -47,11 +47,11 @@ returns-then-address-masks c =
 -- an announcement: rule 7, or no fault
 pub returns-then-hop-gt-HIGHEST_HOP : goal.returns-then-hop-gt-HIGHEST_HOP
 returns-then-hop-gt-HIGHEST_HOP c =
-    faults (fetched (goal.at.returns-then-hop-gt-HIGHEST_HOP c).After-two_bytes-hop) (search rules) (high_hop (clean (goal.at.returns-then-hop-gt-HIGHEST_HOP c).Else-address-masks (fetched (goal.at.returns-then-hop-gt-HIGHEST_HOP c).After-two_bytes-hop)) c.if-action-eq-ANNOUNCE.true c.if-hop-gt-HIGHEST_HOP.true)
+    faults (fetched (goal.at.returns-then-hop-gt-HIGHEST_HOP c).After-two_bytes-hop) (search rules) (high_hop (clean (goal.at.returns-then-hop-gt-HIGHEST_HOP c).Else-address-masks (fetched (goal.at.returns-then-hop-gt-HIGHEST_HOP c).After-two_bytes-hop)) c.if-action-eq-ANNOUNCE.true (omega (arith, c.if-hop-gt-HIGHEST_HOP.true)))
 
 pub returns-then-action-eq-ANNOUNCE : goal.returns-then-action-eq-ANNOUNCE
 returns-then-action-eq-ANNOUNCE c =
-    answers_announces (fetched (goal.at.returns-then-action-eq-ANNOUNCE c).After-two_bytes-hop) (clean (goal.at.returns-then-action-eq-ANNOUNCE c).Else-address-masks (fetched (goal.at.returns-then-action-eq-ANNOUNCE c).After-two_bytes-hop)) c.if-action-eq-ANNOUNCE.true c.if-hop-gt-HIGHEST_HOP.false
+    answers_announces (fetched (goal.at.returns-then-action-eq-ANNOUNCE c).After-two_bytes-hop) (clean (goal.at.returns-then-action-eq-ANNOUNCE c).Else-address-masks (fetched (goal.at.returns-then-action-eq-ANNOUNCE c).After-two_bytes-hop)) c.if-action-eq-ANNOUNCE.true (omega (arith, c.if-hop-gt-HIGHEST_HOP.false))
 
 -- any other action: rules 6 and 7, or no fault
 pub returns-then-not-withdrawals : goal.returns-then-not-withdrawals
