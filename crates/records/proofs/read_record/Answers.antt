@@ -3,7 +3,6 @@
 -- what is known once the fields are fetched ..
 use mathlib.Core.Path.{◌≡◌}
 use mathlib.Core.Bool.{true}
-use Prim.Native.Nat.{◌+◌}
 use native.Mathlib.Omega.{arith}
 use borrow.Author.Rules.{rules}
 use Rattle.rules.specs.Numbers.{ipv4, width}
