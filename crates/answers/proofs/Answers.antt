@@ -8,10 +8,11 @@ use Prim.Native.Nat.{ℕ, ◌≤◌, ◌<◌}
 use native.Mathlib.Omega.{arith}
 use Rattle.rules.specs.Numbers.{short_output}
 use Rattle.rules.proofs.Numbered.{Between, BetweenOrShort}
-use Rattle.writing.specs.declared.Wrote.{Wrote}
-use Rattle.writing.specs.declared.Wrote.TheVariants.{Table, Refused}
+use Rattle.std.proofs.Common.{Result, Ok, Err}
+use Rattle.refusals.specs.declared.Refused.{Refused}
+use Rattle.ledger.specs.Promise.{report_of}
 use Rattle.writing.specs.Promise.{outcome_of}
-use Rattle.answers.specs.Answers.{number_of, count_for, wrote_for}
+use Rattle.answers.specs.Answers.{number_of, count_for, counted_for}
 
 -- THE NUMBER: 0, or a refusal in its range
 abbrev pub Numbered : ℕ → ℕ → ℕ → Type 0
@@ -45,7 +46,12 @@ zero_is_written least most none x pos is in-range e = refl
 zero_is_written least most (some y) x pos is (inl in-range) e = absurd (omega (arith, pos, in-range.0, sym is ∙ e))
 zero_is_written least most (some y) x pos is (inr short) e = absurd (omega (arith, short, sym is ∙ e))
 
-pub told_beside : (w : Wrote) (scratch output : List ℕ)
-    → wrote_for w ≡ count_for (outcome_of w scratch output).refusal (outcome_of w scratch output).count
-told_beside (Table count) scratch output = refl
-told_beside (Refused number count) scratch output = refl
+-- A COUNT IS TOLD THE SAME of an update and of a writing, whatever that leaves
+pub told_report : (u : Result ℕ Refused) → counted_for u ≡ count_for (report_of u).refusal (report_of u).count
+told_report (Ok count) = refl
+told_report (Err refused) = refl
+
+pub told_beside : (w : Result ℕ Refused) (scratch output : List ℕ)
+    → counted_for w ≡ count_for (outcome_of w scratch output).refusal (outcome_of w scratch output).count
+told_beside (Ok count) scratch output = refl
+told_beside (Err refused) scratch output = refl

@@ -1,13 +1,10 @@
 -- AN ANSWER AS C GETS IT: a struct with document 01's number, 0 where nothing was refused, and the values beside it.
-use Rattle.std.specs.Prelude.{◌≡◌, [], ℕ}
+use Rattle.std.specs.Prelude.{◌≡◌, ℕ, Result, Ok, Err}
 use Rattle.std.proofs.Math.Option.{Option, none, some}
 use Rattle.rules.specs.Lookup.{Answer}
-use Rattle.lists.specs.declared.Found.{Found}
+use Rattle.refusals.specs.declared.Refused.{Refused}
+use Rattle.refusals.specs.Numbered.{number_of as number_in}
 use Rattle.lists.specs.Promise.{answer_of}
-use Rattle.ledger.specs.declared.Updated.{Updated}
-use Rattle.ledger.specs.Promise.{report_of}
-use Rattle.writing.specs.declared.Wrote.{Wrote}
-use Rattle.writing.specs.Promise.{outcome_of}
 use Rattle.answers.specs.declared.FoundAnswer.{FoundAnswer}
 use Rattle.answers.specs.declared.CountAnswer.{CountAnswer}
 
@@ -22,18 +19,13 @@ found_for a = record { number = number_of a.refusal; hop = a.hop; place = a.plac
 abbrev pub count_for : Option ℕ → ℕ → CountAnswer
 count_for refusal count = record { number = number_of refusal; count = count }
 
--- THE STRUCTS FOR THE ENUMS; of a writing the answer alone, without what it leaves
-abbrev pub updated_for : Updated → CountAnswer
-updated_for u = count_for (report_of u).refusal (report_of u).count
+-- THE STRUCTS FOR THE ANSWERS; of a writing the answer alone, without what it leaves
+abbrev pub counted_for : Result ℕ Refused → CountAnswer
+counted_for (Ok count) = count_for none count
+counted_for (Err refused) = count_for (some (number_in refused.refusal)) refused.count
 
-abbrev pub wrote_for : Wrote → CountAnswer
-wrote_for w = count_for (outcome_of w [] []).refusal (outcome_of w [] []).count
-
-pub record FoundSo (answer : Found) (r : FoundAnswer) : Type 0 where
+pub record FoundSo (answer : Result ℕ Refused) (r : FoundAnswer) : Type 0 where
   pub told : r ≡ found_for (answer_of answer)
 
-pub record UpdatedSo (answer : Updated) (r : CountAnswer) : Type 0 where
-  pub told : r ≡ updated_for answer
-
-pub record WroteSo (answer : Wrote) (r : CountAnswer) : Type 0 where
-  pub told : r ≡ wrote_for answer
+pub record CountedSo (answer : Result ℕ Refused) (r : CountAnswer) : Type 0 where
+  pub told : r ≡ counted_for answer

@@ -1,12 +1,9 @@
 // Answers as a caller in C gets them: a struct by value, with document 01's number, 0 where nothing was refused, and the values
-// beside it.
+// beside it. C has no Result: these two structs are the C interface.
+// (`as` narrows, or goes between u32, u64 and usize, where no From serves: it is proved that nothing is lost.)
 #![tactic(auto)]
 
-ghost use Rattle.answers.specs.Answers.{FoundSo, UpdatedSo, WroteSo};
-
-use ledger::Updated;
-use lists::Found;
-use writing::Wrote;
+use refusals::Refused;
 
 // A lookup: the hop, 0 for no route and beside a refusal; the place of the first bad record.
 #[repr(C)]
@@ -25,49 +22,42 @@ pub struct CountAnswer {
     pub count: u64,
 }
 
-pub fn found(answer: Found) -> FoundAnswer
-    ensures { FoundSo answer result }
-{
-    match answer {
-        Found::Hop { hop } => FoundAnswer {
-            number: 0,
-            hop,
-            place: 0,
-        },
-        Found::Refused { number, place } => FoundAnswer {
-            number,
-            hop: 0,
-            place: place as u64,
-        },
+impl From<Result<u32, Refused>> for FoundAnswer {
+    ghost use Rattle.answers.specs.Answers.{FoundSo};
+
+    ghost from_gives = { FoundSo };
+
+    fn from(answer: Result<u32, Refused>) -> FoundAnswer {
+        match answer {
+            Ok(hop) => FoundAnswer {
+                number: 0,
+                hop,
+                place: 0,
+            },
+            Err(Refused { refusal, count }) => FoundAnswer {
+                number: refusal.number(),
+                hop: 0,
+                place: count as u64,
+            },
+        }
     }
 }
 
-pub fn updated(answer: Updated) -> CountAnswer
-    ensures { UpdatedSo answer result }
-{
-    match answer {
-        Updated::Complete { count } => CountAnswer {
-            number: 0,
-            count: count as u64,
-        },
-        Updated::Refused { number, count } => CountAnswer {
-            number,
-            count: count as u64,
-        },
-    }
-}
+impl From<Result<usize, Refused>> for CountAnswer {
+    ghost use Rattle.answers.specs.Answers.{CountedSo};
 
-pub fn wrote(answer: Wrote) -> CountAnswer
-    ensures { WroteSo answer result }
-{
-    match answer {
-        Wrote::Table { count } => CountAnswer {
-            number: 0,
-            count: count as u64,
-        },
-        Wrote::Refused { number, count } => CountAnswer {
-            number,
-            count: count as u64,
-        },
+    ghost from_gives = { CountedSo };
+
+    fn from(answer: Result<usize, Refused>) -> CountAnswer {
+        match answer {
+            Ok(count) => CountAnswer {
+                number: 0,
+                count: count as u64,
+            },
+            Err(refused) => CountAnswer {
+                number: refused.refusal.number(),
+                count: refused.count as u64,
+            },
+        }
     }
 }

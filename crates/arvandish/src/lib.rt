@@ -8,13 +8,11 @@ use answers::{CountAnswer, FoundAnswer};
 pub fn arvandish_lookup(list: &[u8], address: u32) -> FoundAnswer
     ensures { LooksUpForC list.now address result }
 {
-    let found = lists::lookup_list(list, address);
-    answers::found(found)
+    FoundAnswer::from(lists::lookup_list(list, address))
 }
 
 pub fn arvandish_table(list: &[u8], output: &mut [u8]) -> CountAnswer
     ensures { TablesForC list.now output.old output.new result }
 {
-    let wrote = fresh::table(list, output);
-    answers::wrote(wrote)
+    CountAnswer::from(fresh::table(list, output))
 }

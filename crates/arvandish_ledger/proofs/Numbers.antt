@@ -23,7 +23,7 @@ use Rattle.writing.specs.Promise.{bytes_for, into_output, write_fault, write_aft
 use Rattle.answers.specs.declared.FoundAnswer.{FoundAnswer}
 use Rattle.answers.specs.declared.CountAnswer.{CountAnswer}
 use Rattle.answers.specs.Answers.{number_of}
-use Rattle.answers.proofs.Answers.{Numbered, NumberedOrShort, wider, numbered, zero_is_success, numbered_or_short, zero_is_written, told_beside}
+use Rattle.answers.proofs.Answers.{Numbered, NumberedOrShort, wider, numbered, zero_is_success, numbered_or_short, zero_is_written, told_report, told_beside}
 use Rattle.arvandish_ledger.specs.Promise.{UpdatesToC, LooksUpToC, WritesToC}
 
 -- the rules 1 and 2
@@ -48,7 +48,7 @@ module _ (m : Memory) (list : List ℕ) where
 
   module _ (m' : Memory) (r : CountAnswer) (meets : UpdatesToC m list m' r) where
     update_told : r.number ≡ number_of (update_of m list).refusal
-    update_told = ap (λ a. a.number) meets.told.told ∙ ap (λ a. number_of a.refusal) meets.meets.answer
+    update_told = ap (λ a. a.number) (meets.told.told ∙ told_report meets.answer) ∙ ap (λ a. number_of a.refusal) meets.meets.answer
 
     pub update_number : Numbered bad_slices no_slots r.number
     update_number = numbered bad_slices no_slots (update_of m list).refusal r.number update_told update_range

@@ -13,7 +13,7 @@ use Rattle.ledger.proofs.Promise as ledger
 use Rattle.writing.proofs.Promise as writing
 use Rattle.answers.specs.declared.FoundAnswer.{FoundAnswer}
 use Rattle.answers.specs.declared.CountAnswer.{CountAnswer}
-use Rattle.answers.specs.Answers.{found_for, updated_for, wrote_for}
+use Rattle.answers.specs.Answers.{found_for, counted_for}
 use Rattle.arvandish_ledger.specs.Promise.{UpdatesToC, LooksUpToC, WritesToC}
 
 -- UPDATE: the struct, the ledger that is left in any memory, every element where nothing was applied, and in tidy memory every element
@@ -22,7 +22,7 @@ module _ (m a b : Memory) (list : List ℕ) (r s : CountAnswer) (one : UpdatesTo
   pub one_update : r ≡ s
   one_update =
       one.told.told
-      ∙ ap updated_for (ledger.one_update m a b list one.answer other.answer one.meets other.meets)
+      ∙ ap counted_for (ledger.one_update m a b list one.answer other.answer one.meets other.meets)
       ∙ sym other.told.told
 
   pub one_ledger : ledger_of (width ipv4) a ≡ ledger_of (width ipv4) b
@@ -46,7 +46,7 @@ pub one_write : (m : Memory) (scratch output s₁ o₁ s₂ o₂ : List ℕ) (r 
     → WritesToC m scratch output s₁ o₁ r → WritesToC m scratch output s₂ o₂ s → (r ≡ s) × (s₁ ≡ s₂) × (o₁ ≡ o₂)
 one_write m scratch output s₁ o₁ s₂ o₂ r s one other =
     let same = writing.one_answer m scratch output s₁ o₁ s₂ o₂ one.answer other.answer one.meets other.meets in (
-      one.told.told ∙ ap wrote_for same.0 ∙ sym other.told.told,
+      one.told.told ∙ ap counted_for same.0 ∙ sym other.told.told,
       same.1,
       same.2,
     )

@@ -1,27 +1,25 @@
 -- WHAT THE LEDGER DOOR PROMISES: each call what the call of the same name promises, with the answer told as a struct. The answer
 -- that is told is one that the promise allows, and there is only one (proofs/Promise).
-use Rattle.std.specs.Prelude.{List, ℕ}
+use Rattle.std.specs.Prelude.{List, ℕ, Result}
 use Rattle.memory.specs.Layout.{Memory}
-use Rattle.lists.specs.declared.Found.{Found}
-use Rattle.ledger.specs.declared.Updated.{Updated}
+use Rattle.refusals.specs.declared.Refused.{Refused}
 use Rattle.ledger.specs.Promise.{Updates, LooksUp}
-use Rattle.writing.specs.declared.Wrote.{Wrote}
 use Rattle.writing.specs.Promise.{Writes}
 use Rattle.answers.specs.declared.FoundAnswer.{FoundAnswer}
 use Rattle.answers.specs.declared.CountAnswer.{CountAnswer}
-use Rattle.answers.specs.Answers.{FoundSo, UpdatedSo, WroteSo}
+use Rattle.answers.specs.Answers.{FoundSo, CountedSo}
 
 pub record UpdatesToC (m : Memory) (list : List ℕ) (m' : Memory) (r : CountAnswer) : Type 0 where
-  pub answer : Updated
+  pub answer : Result ℕ Refused
   pub meets : Updates m list m' answer
-  pub told : UpdatedSo answer r
+  pub told : CountedSo answer r
 
 pub record LooksUpToC (m : Memory) (address : ℕ) (r : FoundAnswer) : Type 0 where
-  pub answer : Found
+  pub answer : Result ℕ Refused
   pub meets : LooksUp m address answer
   pub told : FoundSo answer r
 
 pub record WritesToC (m : Memory) (scratch output scratch' output' : List ℕ) (r : CountAnswer) : Type 0 where
-  pub answer : Wrote
+  pub answer : Result ℕ Refused
   pub meets : Writes m scratch output scratch' output' answer
-  pub told : WroteSo answer r
+  pub told : CountedSo answer r

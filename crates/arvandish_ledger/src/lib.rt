@@ -1,5 +1,5 @@
 // The ledger door: update, lookup and writing on lent slices, for our tool, tests and benchmarks. include/arvandish_ledger.h is its
-// manual. Each is the call of the same name, its answer told as a struct.
+// manual. Each is the call of the same name on the slices that C lends, its answer told as a struct.
 #![tactic(auto)]
 
 ghost use Rattle.memory.specs.Layout.{memory_of};
@@ -16,8 +16,7 @@ pub fn arvandish_ledger_update(
 ) -> CountAnswer
     ensures { UpdatesToC (memory_of lo.old hi.old up.old hop.old) list.now (memory_of lo.new hi.new up.new hop.new) result }
 {
-    let updated = ledger::update(lo, hi, up, hop, list);
-    answers::updated(updated)
+    CountAnswer::from(ledger::update(lo, hi, up, hop, list))
 }
 
 pub fn arvandish_ledger_lookup(
@@ -29,8 +28,7 @@ pub fn arvandish_ledger_lookup(
 ) -> FoundAnswer
     ensures { LooksUpToC (memory_of lo.now hi.now up.now hop.now) address result }
 {
-    let found = ledger::lookup(lo, hi, up, hop, address);
-    answers::found(found)
+    FoundAnswer::from(ledger::lookup(lo, hi, up, hop, address))
 }
 
 pub fn arvandish_ledger_write(
@@ -43,6 +41,5 @@ pub fn arvandish_ledger_write(
 ) -> CountAnswer
     ensures { WritesToC (memory_of lo.now hi.now up.now hop.now) scratch.old output.old scratch.new output.new result }
 {
-    let wrote = writing::write(lo, hi, up, hop, scratch, output);
-    answers::wrote(wrote)
+    CountAnswer::from(writing::write(lo, hi, up, hop, scratch, output))
 }

@@ -7,7 +7,6 @@ use mathlib.Core.List.{[], ◌∷◌}
 use Prim.Native.Nat.{ℕ, zero, suc, ◌+◌, ◌*◌, ◌-◌, ◌/◌, ◌%◌, ◌≤◌, ◌<◌}
 use native.Mathlib.Nat.{sub-zero}
 use native.Mathlib.Omega.{arith}
-use native.Mathlib.Numerals.{add-one, sub-one}
 use lib.Dec.{ltb, eqb}
 use lib.ListN.{length, get_or}
 use borrow.Author.Tests.{ltb-true, eqb-true, eqb-false, lt-ltb, eq-eqb, ne_eqb, le-ltb}
@@ -76,11 +75,6 @@ module _ (t : Tree) where
   pub rises_unmarked : (w k : ℕ) → 0 < k → get_or t.up k 0 ≡ 0 → rises t w k ≡ 0
   rises_unmarked zero k l e = rw (ne_eqb k 0 (λ q. omega arith))
   rises_unmarked (suc w) k l e = rw (ne_eqb k 0 (λ q. omega arith), hangs_marked k e)
-
-  -- one step up, and where it ends
-  pub rises_top : (w : ℕ) → rises t w 0 ≡ w + 1
-  rises_top zero = refl
-  rises_top (suc w) = sym (add-one (suc w))
 
   pub rises_none : (k : ℕ) → (k ≡ 0 → ⊥) → rises t 0 k ≡ 0
   rises_none k other = rw (ne_eqb k 0 other)
@@ -164,22 +158,9 @@ module _ (w : ℕ) (m : Memory) (k : ℕ) where
   unfolding idle
   idle_unplaced e = rw e
 
-  pub idle_placed : (x : ℕ) → x ≡ rises m.tree w k → (x ≡ 0 → ⊥) → idle w m k ≡ bare m (x - 1) k
+  pub idle_placed : (left : ℕ) → rises m.tree w k ≡ suc left → idle w m k ≡ bare m left k
   unfolding idle
-  idle_placed x e other = ap (idle_with m k) (sym e) ∙ by_steps x other
-    where
-      by_steps : (x : ℕ) → (x ≡ 0 → ⊥) → idle_with m k x ≡ bare m (x - 1) k
-      by_steps zero other = absurd (other refl)
-      by_steps (suc x) other = ap (λ y. bare m y k) (sym (sub-one (suc x)))
+  idle_placed left e = ap (idle_with m k) e
 
   pub idle_unmarked : 0 < k → get_or m.tree.up k 0 ≡ 0 → idle w m k ≡ true
   idle_unmarked l e = idle_unplaced (rises_unmarked m.tree w k l e)
-
--- every slot before one is in use, and this one is too, or is the tip: so is every slot before the next
-pub all_before : (w : ℕ) (m : Memory) (tip slot : ℕ) → ((j : ℕ) → 0 < j → j < slot → (j ≡ tip → ⊥) → idle w m j ≡ false)
-    → ((slot ≡ tip → ⊥) → idle w m slot ≡ false) → (j : ℕ) → 0 < j → j < slot + 1 → (j ≡ tip → ⊥) → idle w m j ≡ false
-all_before w m tip slot before here j p l other =
-    elim (same_or j slot) [
-      | inl e ↦ subst (λ x. idle w m x ≡ false) (sym e) (here (λ q. other (e ∙ q)))
-      | inr e ↦ before j p (omega arith) other
-    ]

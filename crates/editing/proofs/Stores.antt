@@ -1,5 +1,5 @@
 -- The stores of an edit, place by place: what stands at each place after them.
-use mathlib.Core.Path.{◌≡◌, refl, sym, ◌∙◌}
+use mathlib.Core.Path.{◌≡◌, sym, ◌∙◌}
 use mathlib.Core.Logic.{inl, inr}
 use mathlib.Core.Bool.{Bool, true, false}
 use mathlib.Core.List.{List}
@@ -8,49 +8,11 @@ use native.Mathlib.Omega.{arith}
 use lib.Dec.{eqb, ltb}
 use lib.ListN.{length, get_or, set, length-set}
 use lib.Seq.{get_or-set_same, get_or-set_other}
-use borrow.Author.Tests.{ltb-true, leb-true, le-leb, eq-eqb, ne_eqb, lt-ltb, le-ltb}
+use borrow.Author.Tests.{ltb-true, leb-true, le-leb}
 use Rattle.theory.proofs.Hops.{by_test}
 use Rattle.memory.specs.Layout.{Memory, memory_of, Whole, link_in, mark, holds_ledger}
 use Rattle.memory.specs.Tidy.{first_free, next_free, head_of}
 use Rattle.editing.specs.Edits.{head_after, Kept, Hung, Dropped, LinkSet}
-
-module _ (lo hi : List ℕ) (p v : ℕ) where
-  pub link_set_hi : (b : Bool) → b ≡ true → p < length hi → LinkSet lo hi p b v lo (set hi p v)
-  link_set_hi true e l = record {
-    los = refl;
-    his = length-set hi p v;
-    set_there = get_or-set_same hi p v 0 l;
-    set_elsewhere = elsewhere;
-  }
-    where
-      elsewhere : (x : ℕ) (c : Bool) → (x ≡ p → c ≡ true → ⊥) → link_in lo (set hi p v) c x ≡ link_in lo hi c x
-      elsewhere x true apart = get_or-set_other hi p x v 0 (λ q. apart q refl)
-      elsewhere x false apart = refl
-  link_set_hi false e l = absurd (let z : ◌≡◌ {A = ℕ} 0 1 = cc in omega arith)
-
-  pub link_set_lo : (b : Bool) → b ≡ false → p < length lo → LinkSet lo hi p b v (set lo p v) hi
-  link_set_lo false e l = record {
-    los = length-set lo p v;
-    his = refl;
-    set_there = get_or-set_same lo p v 0 l;
-    set_elsewhere = elsewhere;
-  }
-    where
-      elsewhere : (x : ℕ) (c : Bool) → (x ≡ p → c ≡ false → ⊥) → link_in (set lo p v) hi c x ≡ link_in lo hi c x
-      elsewhere x true apart = refl
-      elsewhere x false apart = get_or-set_other lo p x v 0 (λ q. apart q refl)
-  link_set_lo true e l = absurd (let z : ◌≡◌ {A = ℕ} 0 1 = cc in omega arith)
-
--- the head after a slot is taken, by the tests
-module _ (head slot next count : ℕ) where
-  pub head_stays : (first_free head ≡ slot → ⊥) → head_after head slot next count ≡ head
-  head_stays other = rw (ne_eqb (first_free head) slot other)
-
-  pub head_on : first_free head ≡ slot → next_free next slot < count → head_after head slot next count ≡ next_free next slot
-  head_on e l = rw (eq-eqb (first_free head) slot e, lt-ltb (next_free next slot) count l)
-
-  pub head_ends : first_free head ≡ slot → count ≤ next_free next slot → head_after head slot next count ≡ count
-  head_ends e l = rw (eq-eqb (first_free head) slot e, le-ltb (next_free next slot) count l)
 
 -- the head never goes behind the end of the slots
 pub head_bound : (head slot next count : ℕ) → head ≤ count → head_after head slot next count ≤ count

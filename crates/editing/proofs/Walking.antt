@@ -1,7 +1,6 @@
 -- The steps of a walk down a path that makes the slots it lacks, and of one up that frees the bare ones: the ledger stays, and
 -- tidy memory is tidy but for the slot that the walk has come to.
 use mathlib.Core.Path.{◌≡◌, refl, sym, ap, subst, ◌∙◌}
-use mathlib.Core.Logic.{inl, inr}
 use mathlib.Core.Bool.{Bool, true, false}
 use mathlib.Core.List.{◌∷◌}
 use Prim.Native.Nat.{ℕ, zero, suc, ◌-◌, ◌/◌, ◌≤◌, ◌<◌}
@@ -13,9 +12,11 @@ use Rattle.theory.proofs.Walk.{front_length}
 use Rattle.memory.specs.Layout.{Memory, slots, Whole, child, find}
 use Rattle.memory.specs.Tidy.{bare}
 use Rattle.memory.proofs.Find.{Counts, mark_positive, counts_of, parent_below, one_string}
-use Rattle.editing.specs.Spare.{Spared, SpareFor}
-use Rattle.editing.specs.Edits.{CanEdit, Kept, Hung, Dropped}
-use Rattle.editing.specs.Routes.{OnPath, AtEnd, Reworked, Extended, Stuck}
+use Rattle.editing.specs.declared.MemoryMut.{MemoryMut}
+use Rattle.editing.specs.Held.{SameLoans}
+use Rattle.editing.specs.Spare.{Spared}
+use Rattle.editing.specs.Edits.{Kept, Hung, Dropped}
+use Rattle.editing.specs.Routes.{OnPath, AtEnd, Reworked, Extended}
 use Rattle.editing.proofs.Rising.{parent_mark}
 use Rattle.editing.proofs.Hanging.{no_new_child, hung_ledger, hung_there, hung_tidy}
 use Rattle.editing.proofs.Dropping.{dropped_ledger, parent_kept, dropped_tidy, tip_done}
@@ -30,8 +31,8 @@ kept_then a b c p q = record {
   ledger = λ e. q.ledger (p.ledger e);
 }
 
-pub reworked_self : (w : ℕ) (m : Memory) (tip : ℕ) → Whole m → Reworked w m m tip tip
-reworked_self w m tip whole = record { kept = kept_self m whole; same_ledger = refl; tidied = λ t. t }
+pub loans_then : (a b c : MemoryMut) → SameLoans a b → SameLoans b c → SameLoans a c
+loans_then a b c p q = record { lo = q.lo ∙ p.lo; hi = q.hi ∙ p.hi; up = q.up ∙ p.up; hop = q.hop ∙ p.hop }
 
 pub reworked_then : (w : ℕ) (a b c : Memory) (x y z : ℕ) → Reworked w a b x y → Reworked w b c y z → Reworked w a c x z
 reworked_then w a b c x y z p q = record {
@@ -41,59 +42,40 @@ reworked_then w a b c x y z p q = record {
 }
 
 -- ONE BIT DOWN, from the last slot on a path
-module _ (w : ℕ) (m : Memory) (f : ℕ → Bool) (d slot : ℕ) (end : AtEnd w m f d slot) (free : ℕ) (its-spare : SpareFor w m slot free) where
+module _ (w : ℕ) (m : Memory) (f : ℕ → Bool) (d slot : ℕ) (end : AtEnd w m f d slot) (free : ℕ) (spared : Spared w m slot free) where
   abbrev whole : Whole m
   whole = end.on.route.whole
 
-  pub step_stuck : slots m.tree ≤ free → Stuck w m m slot free
-  step_stuck l = elim its-spare [
-    | inl spared ↦ absurd (omega (arith, spared.slot))
-    | inr exhausted ↦ record { unchanged = refl; exhausted = exhausted }
-  ]
+  module _ (m' : Memory) (right : Bool) (turn : right ≡ f d) (hung : Hung m m' slot right free) where
+    there : find m.tree (front f d) ≡ slot
+    there = sym end.on.there
 
-  module _ (slot-free : free < slots m.tree) where
-    spared : Spared w m slot free
-    spared = elim its-spare [ inl taken ↦ taken | inr exhausted ↦ absurd (omega (arith, exhausted.none)) ]
+    short : length (front f d) < w
+    short = omega (arith, front_length f d, end.deeper)
 
-    pub can_hang : CanEdit m slot free
-    can_hang = record {
-      whole = whole;
-      parent_below = end.on.below;
-      positive = spared.positive;
-      below = slot-free;
-      other = spared.other;
+    no_child : child m.tree right slot ≡ slots m.tree
+    no_child = ap (λ b. child m.tree b slot) turn ∙ end.no_child
+
+    pub step_hung : Extended w m m' f d slot free
+    step_hung = record {
+      reworked = record {
+        kept = hung.kept;
+        same_ledger =
+            hung_ledger w m m' slot right free (front f d) whole hung there end.on.below short no_child
+            spared.positive spared.slot spared.other spared.unused spared.hinted;
+        tidied =
+            hung_tidy w m m' slot right free (front f d) whole hung there end.on.below short no_child
+            spared.positive spared.slot spared.other spared.unused spared.hinted;
+      };
+      there = rw add-one
+          (sym (ap (λ b. find m'.tree (b ∷ front f d)) (sym turn)
+          ∙ hung_there w m m' slot right free (front f d) whole hung there end.on.below short no_child
+          spared.positive spared.slot spared.other spared.unused spared.hinted));
+      below = spared.slot;
+      leaf =
+          no_new_child w m m' slot right free (front f d) whole hung there end.on.below short no_child
+          spared.positive spared.slot spared.other spared.unused spared.hinted;
     }
-
-    module _ (m' : Memory) (right : Bool) (turn : right ≡ f d) (hung : Hung m m' slot right free) where
-      there : find m.tree (front f d) ≡ slot
-      there = sym end.on.there
-
-      short : length (front f d) < w
-      short = omega (arith, front_length f d, end.deeper)
-
-      no_child : child m.tree right slot ≡ slots m.tree
-      no_child = ap (λ b. child m.tree b slot) turn ∙ end.no_child
-
-      pub step_hung : Extended w m m' f d slot free
-      step_hung = record {
-        reworked = record {
-          kept = hung.kept;
-          same_ledger =
-              hung_ledger w m m' slot right free (front f d) whole hung there end.on.below short no_child
-              spared.positive slot-free spared.other spared.unused spared.hinted;
-          tidied =
-              hung_tidy w m m' slot right free (front f d) whole hung there end.on.below short no_child
-              spared.positive slot-free spared.other spared.unused spared.hinted;
-        };
-        there = rw add-one
-            (sym (ap (λ b. find m'.tree (b ∷ front f d)) (sym turn)
-            ∙ hung_there w m m' slot right free (front f d) whole hung there end.on.below short no_child
-            spared.positive slot-free spared.other spared.unused spared.hinted));
-        below = slot-free;
-        leaf =
-            no_new_child w m m' slot right free (front f d) whole hung there end.on.below short no_child
-            spared.positive slot-free spared.other spared.unused spared.hinted;
-      }
 
 -- ONE BIT UP: what the mark of a slot on a path says
 pub record Above (m : Memory) (f : ℕ → Bool) (e slot parent : ℕ) : Type 0 where
@@ -158,11 +140,6 @@ up_ends_busy w a m f tip d slot r on busy = record {
       tip_done w m slot (front f d) (sym on.there) (omega (arith, front_length f d, on.route.short))
       (subst (λ x. bare m (w - x) slot ≡ false) (sym (front_length f d)) busy) (r.tidied t);
 }
-
-pub up_ends_first : (w : ℕ) (a m : Memory) (f : ℕ → Bool) (tip d slot : ℕ) → Reworked w a m tip slot → OnPath w m f d slot → d ≡ 0
-    → Reworked w a m tip 0
-up_ends_first w a m f tip d slot r on e =
-    subst (λ x. Reworked w a m tip x) (on.there ∙ ap (λ x. find m.tree (front f x)) e) r
 
 -- the lengths of the slices after an edit
 module _ (m m' : Memory) (whole : Whole m) (k : Kept m m') where

@@ -1,3 +1,4 @@
+pub mod Held
 pub mod Spare
 pub mod Edits
 pub mod Routes

@@ -1,5 +1,5 @@
 -- What setting and removing a route promises, and the steps on the way.
-use Rattle.std.specs.Prelude.{◌≡◌, ◌⊎◌, Bool, true, false, ℕ, ◌+◌, ◌≤◌, ◌<◌}
+use Rattle.std.specs.Prelude.{◌≡◌, Option, MatchOption, Bool, true, false, ℕ, ◌+◌, ◌≤◌, ◌<◌}
 use Rattle.theory.specs.Bits.{Bits, front}
 use Rattle.theory.specs.Ledger.{is_held, announce, withdraw}
 use Rattle.rules.specs.Plain.{needs}
@@ -46,12 +46,12 @@ pub record Extended (w : ℕ) (m m' : Memory) (f : ℕ → Bool) (d slot next : 
   pub leaf : (b : Bool) → child m'.tree b next ≡ slots m.tree
 
 -- .. or there is none for it, and nothing has changed
-pub record Stuck (w : ℕ) (m m' : Memory) (slot next : ℕ) : Type 0 where
+pub record Stuck (w : ℕ) (m m' : Memory) (slot : ℕ) : Type 0 where
   pub unchanged : m' ≡ m
-  pub exhausted : Exhausted w m slot next
+  pub exhausted : Exhausted w m slot
 
-abbrev pub Step : ℕ → Memory → Memory → (ℕ → Bool) → ℕ → ℕ → ℕ → Type 0
-Step w m m' f d slot next = Extended w m m' f d slot next ⊎ Stuck w m m' slot next
+abbrev pub Step : ℕ → Memory → Memory → (ℕ → Bool) → ℕ → ℕ → Option ℕ → Type 0
+Step w m m' f d slot answer = MatchOption answer (Stuck w m m' slot) (Extended w m m' f d slot)
 
 -- ANNOUNCED: the route is held; or it is not, as the ledger would need more slots than there are
 pub record Announced (w : ℕ) (m m' : Memory) (q : Bits) (h : ℕ) (r : Bool) : Type 0 where

@@ -1,6 +1,6 @@
 -- Which slots may be taken for a new string: those that no string of at most w bits lies in, and bare ones. In tidy memory they
 -- are the free ones; in any other memory they are what the ledger does not need.
-use Rattle.std.specs.Prelude.{◌≡◌, ◌⊎◌, Bool, true, false, cond, ◌&&◌, ℕ, zero, suc, ◌-◌, ◌/◌, ◌%◌, ◌<◌, ltb, eqb, get_or}
+use Rattle.std.specs.Prelude.{◌≡◌, Option, MatchOption, Bool, true, false, cond, ◌&&◌, ℕ, zero, suc, ◌-◌, ◌/◌, ◌%◌, ◌<◌, ltb, eqb, get_or}
 use Rattle.memory.specs.Layout.{Tree, Memory, slots, link}
 use Rattle.memory.specs.Tidy.{bare, head_of}
 
@@ -42,10 +42,9 @@ pub record Spared (w : ℕ) (m : Memory) (tip k : ℕ) : Type 0 where
   pub unused : idle w m k ≡ true
   pub hinted : Hinted m.tree tip → k ≡ head_of m.tree
 
--- .. or the number of slots, as every slot is in use
-pub record Exhausted (w : ℕ) (m : Memory) (tip k : ℕ) : Type 0 where
-  pub none : k ≡ slots m.tree
+-- .. or none, as every slot is in use
+pub record Exhausted (w : ℕ) (m : Memory) (tip : ℕ) : Type 0 where
   pub all_used : (j : ℕ) → 0 < j → j < slots m.tree → (j ≡ tip → ⊥) → idle w m j ≡ false
 
-abbrev pub SpareFor : ℕ → Memory → ℕ → ℕ → Type 0
-SpareFor w m tip k = Spared w m tip k ⊎ Exhausted w m tip k
+abbrev pub SpareFor : ℕ → Memory → ℕ → Option ℕ → Type 0
+SpareFor w m tip answer = MatchOption answer (Exhausted w m tip) (Spared w m tip)

@@ -18,35 +18,26 @@ use Rattle.rules.specs.Writing.{smallest_table}
 use Rattle.rules.proofs.Records.{table_length}
 use Rattle.rules.proofs.Numbered.{Between, BetweenOrShort, update_between}
 use Rattle.rules.proofs.Held.{table_fits}
-use Rattle.writing.specs.declared.Wrote.{Wrote}
-use Rattle.writing.specs.declared.Wrote.TheVariants.{Table, Refused}
+use Rattle.std.proofs.Common.{Result, Ok, Err}
+use Rattle.refusals.specs.declared.Refusal.{Refusal}
+use Rattle.refusals.specs.declared.Refusal.TheVariants.{ShortOutput}
+use Rattle.refusals.specs.declared.Refused.{Refused}
+use Rattle.refusals.specs.Numbered.{number_of}
+use Rattle.refusals.specs.Counted.{refused_at}
+use Rattle.refusals.proofs.Numbered.{same_refused, some_same, named}
 use Rattle.writing.specs.Promise.{bytes_for}
 use Rattle.fresh.specs.Promise.{Tabled, tabled_of, stopped, after_update, table_of, TablesIn}
 
 -- ONE ANSWER, and one output beside it
-same_tabled : (r r₂ : Wrote) (o o₂ : List ℕ) → tabled_of r o ≡ tabled_of r₂ o₂ → (r ≡ r₂) × (o ≡ o₂)
-same_tabled (Table c) (Table d) o o₂ e = (ap (λ t. Table t.count) e, ap (λ t. t.output) e)
-same_tabled (Table c) (Refused y d) o o₂ e = none_some (ap (λ t. t.refusal) e) refl
-same_tabled (Refused x c) (Table d) o o₂ e = none_some refl (ap (λ t. t.refusal) e)
-same_tabled (Refused x c) (Refused y d) o o₂ e =
-    let number : some x ≡ some y = ap (λ t. t.refusal) e in
-    let count : c ≡ d = ap (λ t. t.count) e in
-    (cc, ap (λ t. t.output) e)
+same_tabled : (r r₂ : Result ℕ Refused) (o o₂ : List ℕ) → tabled_of r o ≡ tabled_of r₂ o₂ → (r ≡ r₂) × (o ≡ o₂)
+same_tabled (Ok c) (Ok d) o o₂ e = (ap (λ t. Ok t.count) e, ap (λ t. t.output) e)
+same_tabled (Ok c) (Err y) o o₂ e = none_some (ap (λ t. t.refusal) e) refl
+same_tabled (Err x) (Ok d) o o₂ e = none_some refl (ap (λ t. t.refusal) e)
+same_tabled (Err x) (Err y) o o₂ e = (ap Err (same_refused x y (some_same (ap (λ t. t.refusal) e)) (ap (λ t. t.count) e)), ap (λ t. t.output) e)
 
 module _ (n : ℕ) (list output : List ℕ) where
-  pub one_table : (o₁ o₂ : List ℕ) (r₁ r₂ : Wrote) → TablesIn n list output o₁ r₁ → TablesIn n list output o₂ r₂ → (r₁ ≡ r₂) × (o₁ ≡ o₂)
+  pub one_table : (o₁ o₂ : List ℕ) (r₁ r₂ : Result ℕ Refused) → TablesIn n list output o₁ r₁ → TablesIn n list output o₂ r₂ → (r₁ ≡ r₂) × (o₁ ≡ o₂)
   one_table o₁ o₂ r₁ r₂ one other = same_tabled r₁ r₂ o₁ o₂ (one.outcome ∙ sym other.outcome)
-
-  -- and there is one
-  pub some_table : (r : Wrote) × TablesIn n list output (table_of n list output).output r
-  some_table = go (table_of n list output).refusal refl
-    where
-      t : Tabled
-      t = table_of n list output
-
-      go : (f : Option ℕ) → (table_of n list output).refusal ≡ f → (r : Wrote) × TablesIn n list output (table_of n list output).output r
-      go none e = (Table t.count, record { outcome = λ i. record { refusal = sym e i; count = t.count; output = t.output } })
-      go (some x) e = (Refused x t.count, record { outcome = λ i. record { refusal = sym e i; count = t.count; output = t.output } })
 
   -- THE THREE WAYS that it can go, in plain words
   abbrev pub A : Applied
@@ -105,9 +96,9 @@ module _ (n : ℕ) (list output : List ℕ) where
   pub refused_leaves : (x : ℕ) → (table_of n list output).refusal ≡ some x → (table_of n list output).output ≡ output
   refused_leaves = leaves (table_of n list output) way
 
-  pub refusal_leaves : (output' : List ℕ) (x c : ℕ) → TablesIn n list output output' (Refused x c) → output' ≡ output
-  refusal_leaves output' x c meets =
-      ap (λ t. t.output) meets.outcome ∙ refused_leaves x (sym (ap (λ t. t.refusal) meets.outcome))
+  pub refusal_leaves : (output' : List ℕ) (x : Refused) → TablesIn n list output output' (Err x) → output' ≡ output
+  refusal_leaves output' x meets =
+      ap (λ t. t.output) meets.outcome ∙ refused_leaves (number_of x.refusal) (sym (ap (λ t. t.refusal) meets.outcome))
 
   -- THE NUMBERS are 3 to 9, and 11
   numbers : (t : Tabled) → Way t → BetweenOrShort bad_list_length no_slots t.refusal
@@ -117,6 +108,23 @@ module _ (n : ℕ) (list output : List ℕ) where
 
   pub table_between : BetweenOrShort bad_list_length no_slots (table_of n list output).refusal
   table_between = numbers (table_of n list output) way
+
+  -- AND THERE IS AN ANSWER: each of those numbers is that of a refusal
+  pub some_table : (r : Result ℕ Refused) × TablesIn n list output (table_of n list output).output r
+  some_table = go (table_of n list output).refusal refl table_between
+    where
+      t : Tabled
+      t = table_of n list output
+
+      says : (x : Refusal) → (table_of n list output).refusal ≡ some (number_of x)
+          → (r : Result ℕ Refused) × TablesIn n list output (table_of n list output).output r
+      says x e = (Err (refused_at x t.count), record { outcome = λ i. record { refusal = sym e i; count = t.count; output = t.output } })
+
+      go : (f : Option ℕ) → (table_of n list output).refusal ≡ f → BetweenOrShort bad_list_length no_slots f
+          → (r : Result ℕ Refused) × TablesIn n list output (table_of n list output).output r
+      go none e in-range = (Ok t.count, record { outcome = λ i. record { refusal = sym e i; count = t.count; output = t.output } })
+      go (some x) e (inl in-range) = let is = named x (omega (arith, in-range.0)) in-range.1 in says is.0 (e ∙ ap some (sym is.1))
+      go (some x) e (inr eleven) = says ShortOutput (e ∙ ap some eleven)
 
   -- AN OUTPUT AS LONG AS THE LIST is always enough
   fits : 0 < n → length list ≤ length output → (t : Tabled) → Way t → t.refusal ≡ some short_output → ⊥

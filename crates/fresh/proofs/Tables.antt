@@ -16,13 +16,12 @@ use Rattle.rules.specs.Plain.{Applied, updated}
 use Rattle.rules.specs.Writing.{smallest_table}
 use Rattle.memory.specs.Layout.{Memory, memory_of, slots, ledger_of, zeros, zeroed}
 use Rattle.memory.proofs.Zeros.{zeroed_slots}
-use Rattle.ledger.specs.declared.Updated.{Updated}
-use Rattle.ledger.specs.declared.Updated.TheVariants.{Complete, Refused as Stopped}
+use Rattle.std.proofs.Common.{Result, Ok, Err}
+use Rattle.refusals.specs.declared.Refused.{Refused}
+use Rattle.refusals.specs.Numbered.{number_of}
 use Rattle.ledger.specs.Promise.{Updates}
 use Rattle.ledger.proofs.History.{zeroed_fine}
 use Rattle.ledger.proofs.Wrong.{from_zeros}
-use Rattle.writing.specs.declared.Wrote.{Wrote}
-use Rattle.writing.specs.declared.Wrote.TheVariants.{Refused}
 use Rattle.writing.specs.Promise.{bytes_for, into_output, write_fault, Writes}
 use Rattle.writing.proofs.Promise.{fault_none, refused_11, table_written}
 use Rattle.fresh.specs.Promise.{tabled, tabled_of, stopped, after_update, table_of, TablesIn}
@@ -34,15 +33,15 @@ module _ (n : ℕ) (some_slot : 0 < n) (few : n ≤ most_slots) (list output : L
   A = updated ipv4 n nothing list
 
   -- 3 TO 9: the update was refused, and nothing was written
-  update_stopped : (x c : ℕ) → Updates (zeroed n) list m (Stopped x c) → TablesIn n list output output (Refused x c)
+  update_stopped : (x : Refused) → Updates (zeroed n) list m (Err x) → TablesIn n list output output (Err x)
   unfolding table_of
-  update_stopped x c meets =
-      let refusal : some x ≡ A.refusal = ap (λ a. a.refusal) meets.answer ∙ ap (λ a. a.refusal) (from_zeros n some_slot few list) in
-      let count : c ≡ A.count = ap (λ a. a.count) meets.answer ∙ ap (λ a. a.count) (from_zeros n some_slot few list) in
-      record { outcome = ap (λ k. stopped x k output) count ∙ ap (λ f. after_update f A output) refusal }
+  update_stopped x meets =
+      let refusal : some (number_of x.refusal) ≡ A.refusal = ap (λ a. a.refusal) meets.answer ∙ ap (λ a. a.refusal) (from_zeros n some_slot few list) in
+      let count : x.count ≡ A.count = ap (λ a. a.count) meets.answer ∙ ap (λ a. a.count) (from_zeros n some_slot few list) in
+      record { outcome = ap (λ k. stopped (number_of x.refusal) k output) count ∙ ap (λ f. after_update f A output) refusal }
 
   -- THE UPDATE IS COMPLETE, and the memory that it left is written from
-  module _ (applied : ℕ) (complete : Updates (zeroed n) list m (Complete applied)) (scratch scratch' output' : List ℕ) (r : Wrote)
+  module _ (applied : ℕ) (complete : Updates (zeroed n) list m (Ok applied)) (scratch scratch' output' : List ℕ) (r : Result ℕ Refused)
       (sized : length scratch ≡ scratch_words n) (meets : Writes m scratch output scratch' output' r) where
     fine : write_fault m scratch ≡ none
     fine =
@@ -74,17 +73,17 @@ module _ (n : ℕ) (some_slot : 0 < n) (few : n ≤ most_slots) (list output : L
     table_follows = record { outcome = as_written ∙ from_plain }
 
 -- THE SAME of what the step is lent
-module _ (m₀ m : Memory) (scratch list output : List ℕ) (fresh : Fresh m₀ scratch) (u : Updated) (meets : Updates m₀ list m u) where
-  from_zeroed : (v : Updated) → u ≡ v → Updates (zeroed (slots m₀.tree)) list m v
+module _ (m₀ m : Memory) (scratch list output : List ℕ) (fresh : Fresh m₀ scratch) (u : Result ℕ Refused) (meets : Updates m₀ list m u) where
+  from_zeroed : (v : Result ℕ Refused) → u ≡ v → Updates (zeroed (slots m₀.tree)) list m v
   from_zeroed v e = subst (λ k. Updates k list m v) fresh.zeros (subst (Updates m₀ list m) e meets)
 
-  pub stops : (x c : ℕ) → u ≡ Stopped x c → TablesIn (slots m₀.tree) list output output (Refused x c)
-  stops x c e = update_stopped (slots m₀.tree) fresh.some_slot fresh.few list output m x c (from_zeroed (Stopped x c) e)
+  pub stops : (x : Refused) → u ≡ Err x → TablesIn (slots m₀.tree) list output output (Err x)
+  stops x e = update_stopped (slots m₀.tree) fresh.some_slot fresh.few list output m x (from_zeroed (Err x) e)
 
-  pub follows : (applied : ℕ) → u ≡ Complete applied → (scratch' output' : List ℕ) (r : Wrote)
+  pub follows : (applied : ℕ) → u ≡ Ok applied → (scratch' output' : List ℕ) (r : Result ℕ Refused)
       → Writes m scratch output scratch' output' r → TablesIn (slots m₀.tree) list output output' r
   follows applied e scratch' output' r writes =
-      table_follows (slots m₀.tree) fresh.some_slot fresh.few list output m applied (from_zeroed (Complete applied) e) scratch scratch' output' r
+      table_follows (slots m₀.tree) fresh.some_slot fresh.few list output m applied (from_zeroed (Ok applied) e) scratch scratch' output' r
       fresh.sized writes
 
 -- ZEROED SLICES of n slots are what the step asks for

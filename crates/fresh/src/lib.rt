@@ -6,11 +6,10 @@ ghost use Rattle.memory.specs.Layout.{memory_of, slots};
 ghost use Rattle.fresh.specs.Promise.{TablesIn, Tables};
 ghost use Rattle.fresh.specs.Steps.{Fresh};
 
-use ledger::Updated;
 use numbers::{OWN_SCRATCH, OWN_SLOTS};
-use writing::Wrote;
+use refusals::Refused;
 
-// The list is applied to zeroed memory, and the table written from there.
+// The list is applied to zeroed memory, and the table written from there. (Four slices, as the calls take what C lends.)
 fn table_in(
     lo: &mut [u32],
     hi: &mut [u32],
@@ -19,19 +18,19 @@ fn table_in(
     scratch: &mut [u64],
     list: &[u8],
     output: &mut [u8],
-) -> Wrote
+) -> Result<usize, Refused>
     requires { Fresh (memory_of lo.old hi.old up.old hop.old) scratch.old }
     ensures { TablesIn (slots (memory_of lo.old hi.old up.old hop.old).tree) list.now output.old output.new result }
 {
-    let updated = ledger::update(lo, hi, up, hop, list);
-    match updated {
-        Updated::Refused { number, count } => Wrote::Refused { number, count },
-        Updated::Complete { count: _ } => writing::write(lo, hi, up, hop, scratch, output),
+    // (An arm of its own and no `?`: the edit complete_though_a_record_was_refused changes it.)
+    match ledger::update(lo, hi, up, hop, list) {
+        Ok(_) => writing::write(lo, hi, up, hop, scratch, output),
+        Err(refused) => Err(refused),
     }
 }
 
-// The smallest table of an update list into the output; a refusal leaves the output as it was.
-pub fn table(list: &[u8], output: &mut [u8]) -> Wrote
+// The smallest table of an update list into the output; a refusal leaves the output as it was. (Arrays, as there is no heap.)
+pub fn table(list: &[u8], output: &mut [u8]) -> Result<usize, Refused>
     ensures { Tables list.now output.old output.new result }
 {
     let mut lo = [0u32; OWN_SLOTS];

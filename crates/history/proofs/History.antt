@@ -1,4 +1,6 @@
 -- DEMAND 3: any run of calls from zeroed memory replies what a plain ledger of the accepted records replies.
+use Rattle.std.proofs.Common.{Result, Ok}
+use Rattle.refusals.specs.declared.Refused.{Refused}
 use mathlib.Core.Path.{◌≡◌, refl, sym, ap, ap₂, subst, subst₂, ◌∙◌}
 use mathlib.Core.Logic.{inl, inr}
 use mathlib.Core.Bool.{false}
@@ -23,8 +25,6 @@ use Rattle.lent.specs.Lent.{bad_lent, lent_fault}
 use Rattle.lent.proofs.Faults.{good_of}
 use Rattle.ledger.specs.Promise.{after_fault, update_of, reported, found_after}
 use Rattle.ledger.proofs.History.{zeroed_fine}
-use Rattle.writing.specs.declared.Wrote.{Wrote}
-use Rattle.writing.specs.declared.Wrote.TheVariants.{Table}
 use Rattle.writing.specs.Promise.{bytes_for, write_of, Writes}
 use Rattle.writing.proofs.Promise.{fault_slices, fault_none}
 use Rattle.history.specs.Runs.{Ask, writing, Reply, updated_so, found_so, wrote_so, plain_reply, plain_after, plain_replies, plain_ledger, Call, update, lookup, lookup_list, write, Run, fresh, next}
@@ -110,7 +110,7 @@ history n some_slot few asks m replies (next {asks = before} {m = m₀} {replies
 
 -- WHAT IS THEN WRITTEN is the plain ledger's smallest table
 pub history_writes : (n : ℕ) → 0 < n → n ≤ most_slots → (asks : List Ask) (m : Memory) (replies : List Reply) → Run n asks m replies
-    → (scratch output scratch' output' : List ℕ) (r : Wrote) → Writes m scratch output scratch' output' r
+    → (scratch output scratch' output' : List ℕ) (r : Result ℕ Refused) → Writes m scratch output scratch' output' r
     → length scratch ≡ scratch_words n → bytes_for (smallest_table ipv4 (plain_ledger n nothing asks)) ≤ length output
     → WritesSmallest (plain_ledger n nothing asks) (scratch_words n) output scratch' output' r
 history_writes n some_slot few asks m replies run scratch output scratch' output' r meets sized room =
@@ -127,7 +127,7 @@ slots_lent n fits =
     (not_none n (λ e. good.some_slot (zeroed_slots n ∙ e)), omega (arith, good.few, zeroed_slots n))
 
 pub demand_3 : (n : ℕ) → bad_lent (zeroed n) ≡ false → (asks : List Ask) (m : Memory) (replies : List Reply) → Run n asks m replies
-    → (scratch output scratch' output' : List ℕ) (r : Wrote) → Writes m scratch output scratch' output' r
+    → (scratch output scratch' output' : List ℕ) (r : Result ℕ Refused) → Writes m scratch output scratch' output' r
     → length scratch ≡ scratch_words n → bytes_for (smallest_table ipv4 (plain_ledger n nothing asks)) ≤ length output
     → HoldsOfRun n asks m replies × WritesSmallest (plain_ledger n nothing asks) (scratch_words n) output scratch' output' r
 demand_3 n fits asks m replies run scratch output scratch' output' r meets sized room =
@@ -140,8 +140,8 @@ demand_3 n fits asks m replies run scratch output scratch' output' r meets sized
 pub histories_same_bytes : (n : ℕ) → 0 < n → n ≤ most_slots → (asks : List Ask) (m : Memory) (replies : List Reply) → Run n asks m replies
     → (n₂ : ℕ) → 0 < n₂ → n₂ ≤ most_slots → (asks₂ : List Ask) (m₂ : Memory) (replies₂ : List Reply) → Run n₂ asks₂ m₂ replies₂
     → ForwardAlike ipv4 (plain_ledger n nothing asks) (plain_ledger n₂ nothing asks₂)
-    → (scratch output scratch' output' : List ℕ) (r : Wrote) (c : ℕ) → Writes m scratch output scratch' output' r → r ≡ Table c
-    → (scratch₂ output₂ scratch₂' output₂' : List ℕ) (r₂ : Wrote) (c₂ : ℕ) → Writes m₂ scratch₂ output₂ scratch₂' output₂' r₂ → r₂ ≡ Table c₂
+    → (scratch output scratch' output' : List ℕ) (r : Result ℕ Refused) (c : ℕ) → Writes m scratch output scratch' output' r → r ≡ Ok c
+    → (scratch₂ output₂ scratch₂' output₂' : List ℕ) (r₂ : Result ℕ Refused) (c₂ : ℕ) → Writes m₂ scratch₂ output₂ scratch₂' output₂' r₂ → r₂ ≡ Ok c₂
     → (c ≡ c₂) × (take (c * record_bytes ipv4) output' ≡ take (c * record_bytes ipv4) output₂')
 histories_same_bytes n some_slot few asks m replies run n₂ some-slot₂ few₂ asks₂ m₂ replies₂ run₂ alike =
     let one = (history n some_slot few asks m replies run).ledger in

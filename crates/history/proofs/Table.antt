@@ -1,5 +1,7 @@
 -- WHAT IS WRITTEN from any memory at all is the smallest table of the ledger that it holds, in document 01's words; and two memories
 -- that forward alike write the same bytes.
+use Rattle.std.proofs.Common.{Result, Ok}
+use Rattle.refusals.specs.declared.Refused.{Refused}
 use mathlib.Core.Path.{◌≡◌, refl, sym, ap, ap₂, ◌∙◌}
 use mathlib.Core.List.{List, ◌++◌}
 use mathlib.Core.Option.{none}
@@ -21,12 +23,9 @@ use Rattle.rules.proofs.Reload.{loads}
 use Rattle.memory.specs.Layout.{Memory, ledger_of, zeros, zeroed}
 use Rattle.memory.proofs.Ledger.{within_rules}
 use Rattle.memory.proofs.Zeros.{zeroed_slots}
-use Rattle.ledger.specs.declared.Updated.{Updated}
 use Rattle.ledger.specs.Promise.{update_of, reported, Updates}
 use Rattle.ledger.proofs.History.{zeroed_fine}
 use Rattle.ledger.proofs.Wrong.{from_zeros}
-use Rattle.writing.specs.declared.Wrote.{Wrote}
-use Rattle.writing.specs.declared.Wrote.TheVariants.{Table}
 use Rattle.writing.specs.Promise.{bytes_for, write_fault, Writes}
 use Rattle.writing.proofs.Promise.{Same, fault_none, table_of, only_so}
 use Rattle.history.specs.Theorem.{IsSmallest, WritesSmallest}
@@ -36,10 +35,10 @@ some_slot : (w : ℕ) (L : Ledger ℕ) → 0 < needs w L
 some_slot w L = omega (arith, needs_mono w L nothing (λ s e. never e refl), needs_nothing ℕ w)
 
 -- what a memory writes, where T is its smallest table
-written_from : (m : Memory) (scratch output scratch' output' : List ℕ) (r : Wrote) → Writes m scratch output scratch' output' r
+written_from : (m : Memory) (scratch output scratch' output' : List ℕ) (r : Result ℕ Refused) → Writes m scratch output scratch' output' r
     → write_fault m scratch ≡ none
     → (T : List Entry) → smallest_table ipv4 (ledger_of (width ipv4) m) ≡ T → bytes_for T ≤ length output
-    → Same r scratch' output' (Table (length T)) (zeros (length scratch)) (print_table ipv4 T ++ drop (length (print_table ipv4 T)) output)
+    → Same r scratch' output' (Ok (length T)) (zeros (length scratch)) (print_table ipv4 T ++ drop (length (print_table ipv4 T)) output)
 written_from m scratch output scratch' output' r meets fine T is room =
     rw (table_length ipv4 T) (table_of m scratch output scratch' output' r meets fine T is room)
 
@@ -55,7 +54,7 @@ module _ (L : Ledger ℕ) (ok : WithinRules (width ipv4) L) where
   all = smallest_for ipv4 L ok
 
   -- loaded into fresh memory with enough slots, every record is taken, and the ledger is the table's
-  module _ (n : ℕ) (fits : needs (width ipv4) (load T) ≤ n) (few : n ≤ most_slots) (m : Memory) (u : Updated)
+  module _ (n : ℕ) (fits : needs (width ipv4) (load T) ≤ n) (few : n ≤ most_slots) (m : Memory) (u : Result ℕ Refused)
       (taken : Updates (zeroed n) bytes m u) where
     lent : 0 < n
     lent = omega (arith, some_slot (width ipv4) (load T))
@@ -66,9 +65,9 @@ module _ (L : Ledger ℕ) (ok : WithinRules (width ipv4) L) where
     holds_it : ledger_of (width ipv4) m ≡ load T
     holds_it = taken.ledger ∙ ap (λ a. a.ledger) loaded
 
-    written_again : (scratch output scratch' output' : List ℕ) (r : Wrote) → Writes m scratch output scratch' output' r
+    written_again : (scratch output scratch' output' : List ℕ) (r : Result ℕ Refused) → Writes m scratch output scratch' output' r
         → length scratch ≡ scratch_words n → bytes_for T ≤ length output
-        → Same r scratch' output' (Table (length T)) (zeros (length scratch)) (bytes ++ drop (length bytes) output)
+        → Same r scratch' output' (Ok (length T)) (zeros (length scratch)) (bytes ++ drop (length bytes) output)
     written_again scratch output scratch' output' r meets sized room =
         written_from m scratch output scratch' output' r meets
         (fault_none m scratch (taken.no_2_later (zeroed_fine n lent few)) (sized ∙ ap scratch_words (sym (taken.same_lengths.ups ∙ zeroed_slots n))))
@@ -89,7 +88,7 @@ module _ (L : Ledger ℕ) (ok : WithinRules (width ipv4) L) where
   }
 
 -- ANY MEMORY
-pub writes_smallest : (m : Memory) (scratch output scratch' output' : List ℕ) (r : Wrote) → Writes m scratch output scratch' output' r
+pub writes_smallest : (m : Memory) (scratch output scratch' output' : List ℕ) (r : Result ℕ Refused) → Writes m scratch output scratch' output' r
     → write_fault m scratch ≡ none
     → bytes_for (smallest_table ipv4 (ledger_of (width ipv4) m)) ≤ length output
     → WritesSmallest (ledger_of (width ipv4) m) (length scratch) output scratch' output' r
@@ -107,22 +106,22 @@ writes_smallest m scratch output scratch' output' r meets fine room =
     }
 
 -- FORWARDING ALIKE: the same count, and the same bytes
-table_in_front : (m : Memory) (scratch output scratch' output' : List ℕ) (r : Wrote) (c : ℕ) → Writes m scratch output scratch' output' r
-    → r ≡ Table c
+table_in_front : (m : Memory) (scratch output scratch' output' : List ℕ) (r : Result ℕ Refused) (c : ℕ) → Writes m scratch output scratch' output' r
+    → r ≡ Ok c
     → (c ≡ length (smallest_table ipv4 (ledger_of (width ipv4) m)))
     × (take (c * record_bytes ipv4) output' ≡ print_table ipv4 (smallest_table ipv4 (ledger_of (width ipv4) m)))
 table_in_front m scratch output scratch' output' r c meets is =
     let T = smallest_table ipv4 (ledger_of (width ipv4) m) in
     let now = only_so m scratch output scratch' output' r meets c is in
-    let answer : Table c ≡ Table (length T) = sym is ∙ now.0 in
+    let answer : Ok c ≡ Ok (length T) = sym is ∙ now.0 in
     let count : c ≡ length T = cc in (
       count,
       ap₂ (λ k o. take (k * record_bytes ipv4) o) count now.2 ∙ take_at (print_table ipv4 T) (drop (bytes_for T) output) (bytes_for T) (table_length ipv4 T),
     )
 
 pub same_bytes : (m m₂ : Memory) → ForwardAlike ipv4 (ledger_of (width ipv4) m) (ledger_of (width ipv4) m₂)
-    → (scratch output scratch' output' : List ℕ) (r : Wrote) (c : ℕ) → Writes m scratch output scratch' output' r → r ≡ Table c
-    → (scratch₂ output₂ scratch₂' output₂' : List ℕ) (r₂ : Wrote) (c₂ : ℕ) → Writes m₂ scratch₂ output₂ scratch₂' output₂' r₂ → r₂ ≡ Table c₂
+    → (scratch output scratch' output' : List ℕ) (r : Result ℕ Refused) (c : ℕ) → Writes m scratch output scratch' output' r → r ≡ Ok c
+    → (scratch₂ output₂ scratch₂' output₂' : List ℕ) (r₂ : Result ℕ Refused) (c₂ : ℕ) → Writes m₂ scratch₂ output₂ scratch₂' output₂' r₂ → r₂ ≡ Ok c₂
     → (c ≡ c₂) × (take (c * record_bytes ipv4) output' ≡ take (c * record_bytes ipv4) output₂')
 same_bytes m m₂ alike scratch output scratch' output' r c meets is scratch₂ output₂ scratch₂' output₂' r₂ c₂ meets₂ is₂ =
     let same : smallest_table ipv4 (ledger_of (width ipv4) m) ≡ smallest_table ipv4 (ledger_of (width ipv4) m₂) =

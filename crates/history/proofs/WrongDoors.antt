@@ -21,6 +21,7 @@ use Rattle.cases.specs.Cases.{Case, after, Holds, case_c, table_c, copy_of_c, ca
 use Rattle.cases.proofs.Cases.{c_holds, half_holds}
 use Rattle.answers.specs.declared.FoundAnswer.{FoundAnswer}
 use Rattle.answers.specs.declared.CountAnswer.{CountAnswer}
+use Rattle.answers.proofs.Answers.{told_report}
 use Rattle.answers.specs.Answers.{number_of, count_for}
 use Rattle.arvandish.specs.Promise.{LooksUpForC, TablesForC}
 use Rattle.arvandish_ledger.specs.Promise.{UpdatesToC, LooksUpToC, WritesToC}
@@ -129,7 +130,7 @@ module _ (n : ℕ) (some_slot : 0 < n) (few : n ≤ most_slots) where
       → (r.number ≡ 0 → ⊥) → ⊥
   ledger_refuses_everything_breaks m r meets refuses =
       refuses
-      (ap (λ a. a.number) meets.told.told
+      (ap (λ a. a.number) (meets.told.told ∙ told_report meets.answer)
       ∙ ap (λ p. number_of p.refusal) (meets.meets.answer ∙ ap reported (ledger.default_taken n some_slot few)))
 
   pub ledger_applies_none_breaks : (r : CountAnswer) → UpdatesToC (zeroed n) (ledger.default n some_slot few) (zeroed n) r → ⊥

@@ -1,4 +1,6 @@
 -- ANY RUN OF CALLS: what is asked, what a plain ledger replies, and what our calls reply on lent memory.
+use Rattle.std.specs.Prelude.{Result}
+use Rattle.refusals.specs.declared.Refused.{Refused}
 use Rattle.std.specs.Prelude.{cond, List, [], ◌∷◌, ◌++◌, ℕ, eqb, length}
 use Rattle.std.proofs.Math.Option.{none}
 use Rattle.theory.specs.Ledger.{Ledger}
@@ -7,11 +9,8 @@ use Rattle.rules.specs.Plain.{updated}
 use Rattle.rules.specs.Lookup.{Answer, hop_of, looked_up}
 use Rattle.rules.specs.Writing.{smallest_table}
 use Rattle.memory.specs.Layout.{Memory, zeroed}
-use Rattle.lists.specs.declared.Found.{Found}
 use Rattle.lists.specs.Promise.{answer_of, LooksUpList}
-use Rattle.ledger.specs.declared.Updated.{Updated}
 use Rattle.ledger.specs.Promise.{Report, report_of, reported, Updates, LooksUp}
-use Rattle.writing.specs.declared.Wrote.{Wrote}
 use Rattle.writing.specs.Promise.{Outcome, outcome_of, unchanged, into_output, Writes}
 
 -- WHAT IS ASKED: one call, with all that is lent beside the memory. Any list, any address, any scratch and any output.
@@ -53,10 +52,10 @@ plain_ledger n L (a ∷ asks) = plain_ledger n (plain_after n L a) asks
 -- ONE OF OUR CALLS on memory m, which leaves m': any answer that meets the call's promise. Only an update is lent the memory for
 -- writing.
 pub data Call (m : Memory) : Ask → Memory → Reply → Type 0 where
-  update : (list : List ℕ) (m' : Memory) (r : Updated) → Updates m list m' r → Call m (updating list) m' (updated_so (report_of r))
-  lookup : (x : ℕ) (r : Found) → LooksUp m x r → Call m (looking_up x) m (found_so (answer_of r))
-  lookup_list : (list : List ℕ) (x : ℕ) (r : Found) → LooksUpList list x r → Call m (looking_up_in list x) m (found_so (answer_of r))
-  write : (scratch output scratch' output' : List ℕ) (r : Wrote) → Writes m scratch output scratch' output' r
+  update : (list : List ℕ) (m' : Memory) (r : Result ℕ Refused) → Updates m list m' r → Call m (updating list) m' (updated_so (report_of r))
+  lookup : (x : ℕ) (r : Result ℕ Refused) → LooksUp m x r → Call m (looking_up x) m (found_so (answer_of r))
+  lookup_list : (list : List ℕ) (x : ℕ) (r : Result ℕ Refused) → LooksUpList list x r → Call m (looking_up_in list x) m (found_so (answer_of r))
+  write : (scratch output scratch' output' : List ℕ) (r : Result ℕ Refused) → Writes m scratch output scratch' output' r
       → Call m (writing scratch output) m (wrote_so (outcome_of r scratch' output'))
 
 -- A RUN from zeroed memory of n slots: any calls, refused ones included, each lent that same memory whole

@@ -1,4 +1,6 @@
 -- DEMAND 3, in document 01's words, as item 2 of document 02 changes them.
+use Rattle.std.specs.Prelude.{Result, Ok}
+use Rattle.refusals.specs.declared.Refused.{Refused}
 use Rattle.std.specs.Prelude.{◌≡◌, true, List, ◌++◌, ℕ, ◌*◌, ◌≤◌, ◌<◌, length, drop}
 use Rattle.std.proofs.Math.Option.{none, some}
 use Rattle.theory.specs.Bits.{Each}
@@ -9,12 +11,8 @@ use Rattle.rules.specs.Plain.{needs}
 use Rattle.rules.specs.Writing.{smallest_table, ForwardsAs}
 use Rattle.memory.specs.Layout.{Memory, slots, ledger_of, zeros, zeroed}
 use Rattle.lent.specs.Lent.{lent_fault}
-use Rattle.lists.specs.declared.Found.{Found}
 use Rattle.lists.specs.Promise.{answer_of, LooksUpList}
-use Rattle.ledger.specs.declared.Updated.{Updated}
 use Rattle.ledger.specs.Promise.{Updates, report_of}
-use Rattle.writing.specs.declared.Wrote.{Wrote}
-use Rattle.writing.specs.declared.Wrote.TheVariants.{Table}
 use Rattle.writing.specs.Promise.{Writes}
 use Rattle.history.specs.Runs.{Ask, Reply, updated_so, found_so, wrote_so, plain_replies, plain_ledger}
 
@@ -37,7 +35,7 @@ pub record HoldsOfRun (n : ℕ) (asks : List Ask) (m : Memory) (replies : List R
 pub record IsSmallest (L : Ledger ℕ) (count : ℕ) (bytes : List ℕ) : Type 0 where
   pub sized : length bytes ≡ count * record_bytes ipv4
   -- the same hop or the same discard as in the ledger on all 4,294,967,296 addresses, as our list lookup finds them in these bytes
-  pub agrees : (x : ℕ) → x < addresses ipv4 → (f : Found) → LooksUpList bytes x f
+  pub agrees : (x : ℕ) → x < addresses ipv4 → (f : Result ℕ Refused) → LooksUpList bytes x f
       → answer_of f ≡ record { refusal = none; hop = hop_of ipv4 L x; place = 0 }
   -- no list that agrees has fewer entries: no record list, nor any list of entries with any prefixes and any hops
   pub fewest_records : (list : List ℕ) → AnswersAs ipv4 L list → length bytes ≤ length list
@@ -48,19 +46,19 @@ pub record IsSmallest (L : Ledger ℕ) (count : ℕ) (bytes : List ℕ) : Type 0
   pub reads_back : scanned ipv4 bytes ≡ record { refusal = none; place = 0; entries = smallest_table ipv4 L }
   -- loaded into fresh memory with enough slots and written again, they give the same bytes
   pub loads : (n : ℕ) → needs (width ipv4) (load (smallest_table ipv4 L)) ≤ n → n ≤ most_slots
-      → (m : Memory) (u : Updated) → Updates (zeroed n) bytes m u → report_of u ≡ record { refusal = none; count = count; complete = true }
+      → (m : Memory) (u : Result ℕ Refused) → Updates (zeroed n) bytes m u → report_of u ≡ record { refusal = none; count = count; complete = true }
   pub again : (n : ℕ) → needs (width ipv4) (load (smallest_table ipv4 L)) ≤ n → n ≤ most_slots
-      → (m : Memory) (u : Updated) → Updates (zeroed n) bytes m u
-      → (scratch output scratch' output' : List ℕ) (r : Wrote) → Writes m scratch output scratch' output' r
+      → (m : Memory) (u : Result ℕ Refused) → Updates (zeroed n) bytes m u
+      → (scratch output scratch' output' : List ℕ) (r : Result ℕ Refused) → Writes m scratch output scratch' output' r
       → length scratch ≡ scratch_words n → length bytes ≤ length output
-      → (r ≡ Table count) × (output' ≡ bytes ++ drop (length bytes) output)
+      → (r ≡ Ok count) × (output' ≡ bytes ++ drop (length bytes) output)
 
 -- WRITING SUCCEEDS: the count is answered, the smallest table's bytes stand in front of the output, every byte behind them is as it
 -- was, and the scratch is zero
-pub record WritesSmallest (L : Ledger ℕ) (words : ℕ) (output scratch' output' : List ℕ) (r : Wrote) : Type 0 where
+pub record WritesSmallest (L : Ledger ℕ) (words : ℕ) (output scratch' output' : List ℕ) (r : Result ℕ Refused) : Type 0 where
   pub count : ℕ
   pub bytes : List ℕ
-  pub answer : r ≡ Table count
+  pub answer : r ≡ Ok count
   pub written : output' ≡ bytes ++ drop (length bytes) output
   pub scratch_zero : scratch' ≡ zeros words
   pub smallest : IsSmallest L count bytes

@@ -6,19 +6,26 @@ use mathlib.Core.List.{List}
 use Prim.Native.Nat.{ℕ, ◌≤◌}
 use native.Mathlib.Omega.{arith}
 use lib.Dec.{leb}
-use lib.ListN.{take, drop}
+use lib.ListN.{take}
 use borrow.Author.Tests.{le-leb, lt-leb}
 use Rattle.theory.specs.Bits.{bits_of, prefix_of}
 use Rattle.theory.specs.Ledger.{Ledger, is_held, announce, withdraw}
-use Rattle.rules.specs.Numbers.{ipv4, width, record_bytes, not_held, no_slots}
+use Rattle.rules.specs.Numbers.{ipv4, width, not_held}
 use Rattle.rules.specs.Records.{update, Reading, read}
 use Rattle.rules.specs.Plain.{needs, taken, refused, if_room, apply}
-use Rattle.records.specs.declared.Record.TheVariants.{Announces, Withdraws, Faulty}
+use Rattle.std.proofs.Common.{Result, Ok, Err}
+use Rattle.std.specs.Result.{is_ok, result_or}
+use Rattle.refusals.specs.declared.Refusal.{Refusal}
+use Rattle.refusals.specs.declared.Refusal.TheVariants as refusal
+use Rattle.refusals.specs.declared.Refusal.TheVariants.{NoSlots}
+use Rattle.records.specs.declared.Record.TheVariants.{Announces, Withdraws}
 use Rattle.records.specs.Promise.{reading_of, InBounds, ReadsRecord}
 use Rattle.memory.specs.Path.{path_bit}
 use Rattle.memory.specs.declared.Path.{Path}
 use Rattle.memory.specs.Layout.{Memory, slots, Whole, ledger_of}
 use Rattle.memory.proofs.Room.{needs_fit}
+use Rattle.editing.specs.declared.NoSlot.{NoSlot}
+use Rattle.editing.specs.declared.NotHeld.{NotHeld}
 use Rattle.editing.specs.Edits.{Kept}
 use Rattle.editing.specs.Routes.{CanAnnounce, CanWithdraw, Announced, Withdrawn}
 use Rattle.editing.proofs.Walking.{kept_self}
@@ -37,23 +44,21 @@ fits m m' L k e =
 room_taken : (m m' : Memory) (L : Ledger ℕ) → Kept m m' → ledger_of w m' ≡ L → if_room w (slots m.tree) L ≡ taken (ledger_of w m')
 room_taken m m' L k e = rw (fits m m' L k e) (ap taken (sym e))
 
-module _ (list : List ℕ) (at : ℕ) (m : Memory) (whole : Whole m) where
+module _ (fields : List ℕ) (m : Memory) (whole : Whole m) where
   abbrev reading : Reading
-  reading = read update ipv4 (take (record_bytes ipv4) (drop at list))
+  reading = read update ipv4 fields
 
   -- a record that cannot be read leaves everything
-  pub applies_faulty : (number : ℕ) → ReadsRecord list at true (Faulty number) → AppliesOne m m reading number
+  pub applies_faulty : (x : Refusal) → ReadsRecord fields true (Err x) → AppliesOne m m reading (Err x)
   unfolding reading_of InBounds
-  applies_faulty number r = record {
+  applies_faulty x r = record {
     kept = kept_self m whole;
-    taken_so = λ e. absurd (omega (arith, r.bounds.first));
-    refused_so = λ e. (ap (apply w (slots m.tree) (ledger_of w m)) (sym r.reading), refl);
-    untouched = λ x y. refl;
+    says = record { refused_so = ap (apply w (slots m.tree) (ledger_of w m)) (sym r.reading); same_ledger = refl; untouched = λ y. refl };
     tidied = λ t. t;
   }
 
   module _ (address size : ℕ) (path : Path) (is : IsPathOf address path) where
-    module _ (h : ℕ) (r : ReadsRecord list at true (Announces address size h)) where
+    module _ (h : ℕ) (r : ReadsRecord fields true (Ok (Announces address size h))) where
       pub can_announce : CanAnnounce w m size h
       unfolding InBounds
       can_announce = record {
@@ -70,30 +75,31 @@ module _ (list : List ℕ) (at : ℕ) (m : Memory) (whole : Whole m) where
       unfolding reading_of
       is_announcement = ap (apply w (slots m.tree) (ledger_of w m)) (sym r.reading)
 
-      pub announcement_taken : (m' : Memory) (b : Bool) → Announced w m m' (prefix_of (path_bit path) size) h b → b ≡ true → AppliesOne m m' reading 0
-      announcement_taken m' b given e =
-          let a = announced m' b given in
+      announcement_taken : (m' : Memory) (u : Unit {0}) → Announced w m m' (prefix_of (path_bit path) size) h true → AppliesOne m m' reading (Ok u)
+      announcement_taken m' u given =
+          let a = announced m' true given in
           record {
             kept = a.kept;
-            taken_so = λ z. is_announcement ∙ room_taken m m' (announce (ledger_of w m) (take size (bits_of w address)) h) a.kept (a.taken e);
-            refused_so = λ other. absurd (other refl);
-            untouched = λ other y. absurd (other refl);
+            says = is_announcement ∙ room_taken m m' (announce (ledger_of w m) (take size (bits_of w address)) h) a.kept (a.taken refl);
             tidied = a.tidied;
           }
 
-      pub announcement_refused : (m' : Memory) (b : Bool) → Announced w m m' (prefix_of (path_bit path) size) h b → b ≡ false
-          → AppliesOne m m' reading no_slots
-      announcement_refused m' b given e =
-          let a = announced m' b given in
+      announcement_refused : (m' : Memory) → Announced w m m' (prefix_of (path_bit path) size) h false → AppliesOne m m' reading (Err NoSlots)
+      announcement_refused m' given =
+          let a = announced m' false given in
           record {
             kept = a.kept;
-            taken_so = λ z. absurd (omega arith);
-            refused_so = λ other. (is_announcement ∙ rw (lt-leb _ _ (a.refused e).1), (a.refused e).0);
-            untouched = λ x room. absurd (room refl);
+            says = record { refused_so = is_announcement ∙ rw (lt-leb _ _ (a.refused refl).1); same_ledger = (a.refused refl).0; untouched = λ room. absurd (room refl) };
             tidied = a.tidied;
           }
 
-    module _ (r : ReadsRecord list at true (Withdraws address size)) where
+      -- what setting the route answers is what the record's answer is
+      pub announcement : (m' : Memory) (answer : Result (Unit {0}) NoSlot) → Announced w m m' (prefix_of (path_bit path) size) h (is_ok answer)
+          → AppliesOne m m' reading (result_or answer (Err NoSlots))
+      announcement m' (Ok u) given = announcement_taken m' u given
+      announcement m' (Err e) given = announcement_refused m' given
+
+    module _ (r : ReadsRecord fields true (Ok (Withdraws address size))) where
       pub can_withdraw : CanWithdraw w m size
       unfolding InBounds
       can_withdraw = record { whole = whole; short = r.bounds.within; fits = omega arith }
@@ -109,26 +115,27 @@ module _ (list : List ℕ) (at : ℕ) (m : Memory) (whole : Whole m) where
       unfolding reading_of
       is_withdrawal = ap (apply w (slots m.tree) (ledger_of w m)) (sym r.reading)
 
-      pub withdrawal_taken : (m' : Memory) (b : Bool) → Withdrawn w m m' (prefix_of (path_bit path) size) b → b ≡ true → AppliesOne m m' reading 0
-      withdrawal_taken m' b given e =
-          let a = withdrawn m' b given in
+      withdrawal_taken : (m' : Memory) (u : Unit {0}) → Withdrawn w m m' (prefix_of (path_bit path) size) true → AppliesOne m m' reading (Ok u)
+      withdrawal_taken m' u given =
+          let a = withdrawn m' true given in
           record {
             kept = a.kept;
-            taken_so = λ z. is_withdrawal
-                ∙ rw (a.taken e).0 (room_taken m m' (withdraw (ledger_of w m) (take size (bits_of w address))) a.kept (a.taken e).1);
-            refused_so = λ other. absurd (other refl);
-            untouched = λ other y. absurd (other refl);
+            says = is_withdrawal
+                ∙ rw (a.taken refl).0 (room_taken m m' (withdraw (ledger_of w m) (take size (bits_of w address))) a.kept (a.taken refl).1);
             tidied = a.tidied;
           }
 
-      pub withdrawal_refused : (m' : Memory) (b : Bool) → Withdrawn w m m' (prefix_of (path_bit path) size) b → b ≡ false
-          → AppliesOne m m' reading not_held
-      withdrawal_refused m' b given e =
-          let a = withdrawn m' b given in
+      withdrawal_refused : (m' : Memory) → Withdrawn w m m' (prefix_of (path_bit path) size) false → AppliesOne m m' reading (Err refusal.NotHeld)
+      withdrawal_refused m' given =
+          let a = withdrawn m' false given in
           record {
             kept = a.kept;
-            taken_so = λ z. absurd (omega arith);
-            refused_so = λ other. (is_withdrawal ∙ rw (a.refused e).0, ap (ledger_of w) (a.refused e).1);
-            untouched = λ x y. (a.refused e).1;
+            says = record { refused_so = is_withdrawal ∙ rw (a.refused refl).0; same_ledger = ap (ledger_of w) (a.refused refl).1; untouched = λ y. (a.refused refl).1 };
             tidied = a.tidied;
           }
+
+      -- and likewise of removing it
+      pub withdrawal : (m' : Memory) (answer : Result (Unit {0}) NotHeld) → Withdrawn w m m' (prefix_of (path_bit path) size) (is_ok answer)
+          → AppliesOne m m' reading (result_or answer (Err refusal.NotHeld))
+      withdrawal m' (Ok u) given = withdrawal_taken m' u given
+      withdrawal m' (Err e) given = withdrawal_refused m' given

@@ -1,5 +1,5 @@
 -- Memory reached from zeros holds the plain ledger of the accepted records, is tidy, and never gets refusal 2.
-use mathlib.Core.Path.{◌≡◌, refl, sym, ap, subst, ◌∙◌}
+use mathlib.Core.Path.{◌≡◌, sym, ap, subst, ◌∙◌}
 use mathlib.Core.List.{List}
 use mathlib.Core.Option.{none}
 use Prim.Native.Nat.{ℕ, ◌≤◌, ◌<◌}
@@ -11,14 +11,15 @@ use Rattle.memory.specs.Layout.{Memory, slots, ledger_of, zeroed}
 use Rattle.memory.specs.Tidy.{head_of}
 use Rattle.memory.proofs.Chain.{chained_head}
 use Rattle.memory.proofs.Zeros.{zeroed_ledger, zeroed_slots, zeroed_whole, zeroed_tidy, zeroed_head}
-use Rattle.ledger.specs.declared.Updated.{Updated}
+use Rattle.std.proofs.Common.{Result}
+use Rattle.refusals.specs.declared.Refused.{Refused}
 use Rattle.lent.specs.Lent.{lent_fault}
 use Rattle.ledger.specs.Promise.{after_fault, update_of, Updates}
 use Rattle.ledger.specs.History.{ReachedMemory, at_zeros, by_update, Sound}
 use Rattle.lent.proofs.Faults.{no_fault}
 
 -- what is left where the call is let through
-pub ledger_after : (m m' : Memory) (list : List ℕ) (r : Updated) → Updates m list m' r → lent_fault m ≡ none
+pub ledger_after : (m m' : Memory) (list : List ℕ) (r : Result ℕ Refused) → Updates m list m' r → lent_fault m ≡ none
     → ledger_of (width ipv4) m' ≡ (updated ipv4 (slots m.tree) (ledger_of (width ipv4) m) list).ledger
 unfolding update_of
 ledger_after m m' list r u e = u.ledger ∙ ap (λ o. (after_fault o m list).ledger) e
@@ -27,7 +28,7 @@ module _ (n : ℕ) (some_slot : 0 < n) (few : n ≤ most_slots) where
   pub zeroed_fine : lent_fault (zeroed n) ≡ none
   zeroed_fine =
       let whole = zeroed_whole n some_slot (omega arith) in
-      ((no_fault (zeroed n)
+      (no_fault (zeroed n)
       record {
         los = whole.shaped.los;
         his = whole.shaped.his;
@@ -35,7 +36,7 @@ module _ (n : ℕ) (some_slot : 0 < n) (few : n ≤ most_slots) where
         some_slot = λ e. omega (arith, zeroed_slots n);
         few = omega (arith, zeroed_slots n);
       }
-      (omega (arith, zeroed_head n))).fine refl).0
+      (omega (arith, zeroed_head n)) tt).0
 
   -- REFUSAL 2 NEVER COMES, and every later answer is about the plain ledger of the accepted records
   pub sound : (m : Memory) → ReachedMemory n m → Sound n m

@@ -15,9 +15,9 @@ use Rattle.memory.specs.declared.Path.{Path}
 use Rattle.ledger.specs.Steps.{IsPathOf}
 
 -- Shifted to the path's front, its bits stand first
-pub path_bits_lem : (x : ℕ) → IsPathOf x (record { high = x * 4294967296; low = 0 })
+pub path_bits_lem : (x h : ℕ) → h ≡ x * 4294967296 → IsPathOf x (record { high = h; low = 0 })
 unfolding path_bit
-path_bits_lem x = record {
+path_bits_lem x h is = rw is record {
   bit_by_bit = λ i l.
       let apart : 63 - i ≡ (31 - i) + 32 = omega arith in
       let shifted : x * 4294967296 / 2 ^ (63 - i) ≡ x / 2 ^ (31 - i) =

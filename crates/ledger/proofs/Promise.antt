@@ -15,25 +15,22 @@ use Rattle.rules.specs.Plain.{updated}
 use Rattle.memory.specs.Layout.{Memory, ledger_of, holds_ledger}
 use Rattle.memory.specs.Tidy.{Tidy, SameButSlots}
 use Rattle.memory.proofs.Tidy.{tidy_same}
-use Rattle.lists.specs.declared.Found.{Found}
 use Rattle.lists.proofs.Promise.{same_answer}
-use Rattle.ledger.specs.declared.Updated.{Updated}
-use Rattle.ledger.specs.declared.Updated.TheVariants.{Complete, Refused}
+use Rattle.std.proofs.Common.{Result, Ok, Err}
+use Rattle.refusals.specs.declared.Refused.{Refused}
+use Rattle.refusals.proofs.Numbered.{same_refused, some_same}
 use Rattle.lent.specs.Lent.{bad_lent, lent_fault}
 use Rattle.ledger.specs.Promise.{after_fault, update_of, report_of, reported, Updates, LooksUp}
 use Rattle.lent.proofs.Faults.{let_through, whole_of}
 
 -- UPDATE
-same_report : (r s : Updated) → report_of r ≡ report_of s → r ≡ s
-same_report (Complete c) (Complete d) e = ap (λ a. Complete a.count) e
-same_report (Complete c) (Refused y d) e = none_some (ap (λ a. a.refusal) e) refl
-same_report (Refused x c) (Complete d) e = none_some refl (ap (λ a. a.refusal) e)
-same_report (Refused x c) (Refused y d) e =
-    let number : some x ≡ some y = ap (λ a. a.refusal) e in
-    let count : c ≡ d = ap (λ a. a.count) e in
-    cc
+same_report : (r s : Result ℕ Refused) → report_of r ≡ report_of s → r ≡ s
+same_report (Ok c) (Ok d) e = ap (λ a. Ok a.count) e
+same_report (Ok c) (Err y) e = none_some (ap (λ a. a.refusal) e) refl
+same_report (Err x) (Ok d) e = none_some refl (ap (λ a. a.refusal) e)
+same_report (Err x) (Err y) e = ap Err (same_refused x y (some_same (ap (λ a. a.refusal) e)) (ap (λ a. a.count) e))
 
-module _ (m a b : Memory) (list : List ℕ) (r s : Updated) (one : Updates m list a r) (other : Updates m list b s) where
+module _ (m a b : Memory) (list : List ℕ) (r s : Result ℕ Refused) (one : Updates m list a r) (other : Updates m list b s) where
   pub one_update : r ≡ s
   one_update = same_report r s (one.answer ∙ sym other.answer)
 
@@ -64,7 +61,7 @@ no_room_among m e =
           ]
     ]
 
-pub lent_refused : (m m' : Memory) (list : List ℕ) (r : Updated) → Updates m list m' r → (x : ℕ) → lent_fault m ≡ some x
+pub lent_refused : (m m' : Memory) (list : List ℕ) (r : Result ℕ Refused) → Updates m list m' r → (x : ℕ) → lent_fault m ≡ some x
     → (report_of r ≡ record { refusal = some x; count = 0; complete = false }) × (m' ≡ m)
 unfolding update_of
 lent_refused m m' list r u x e =
@@ -74,7 +71,7 @@ lent_refused m m' list r u x e =
           (λ q. no_room_among m (e ∙ sym (ap (λ a. a.refusal) is) ∙ q)),
     )
 
-pub list_refused : (m m' : Memory) (list : List ℕ) (r : Updated) → Updates m list m' r → lent_fault m ≡ none → whole_records ipv4 list ≡ false
+pub list_refused : (m m' : Memory) (list : List ℕ) (r : Result ℕ Refused) → Updates m list m' r → lent_fault m ≡ none → whole_records ipv4 list ≡ false
     → (report_of r ≡ record { refusal = some bad_list_length; count = 0; complete = false }) × (m' ≡ m)
 unfolding update_of updated
 list_refused m m' list r u e q =
@@ -86,5 +83,5 @@ list_refused m m' list r u e q =
     )
 
 -- LOOKUP
-pub one_lookup : (m : Memory) (x : ℕ) (r s : Found) → LooksUp m x r → LooksUp m x s → r ≡ s
+pub one_lookup : (m : Memory) (x : ℕ) (r s : Result ℕ Refused) → LooksUp m x r → LooksUp m x s → r ≡ s
 one_lookup m x r s one other = same_answer r s (one.answer ∙ sym other.answer)

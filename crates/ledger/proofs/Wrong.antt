@@ -19,10 +19,9 @@ use Rattle.rules.proofs.Records.{whole_print, readings_print}
 use Rattle.rules.proofs.Slots.{needs_alone}
 use Rattle.memory.specs.Layout.{Memory, ledger_of, zeroed}
 use Rattle.memory.proofs.Zeros.{zeroed_ledger, zeroed_slots}
-use Rattle.lists.specs.declared.Found.{Found}
+use Rattle.std.proofs.Common.{Result, Ok}
+use Rattle.refusals.specs.declared.Refused.{Refused}
 use Rattle.lists.specs.Promise.{answer_of}
-use Rattle.ledger.specs.declared.Updated.{Updated}
-use Rattle.ledger.specs.declared.Updated.TheVariants.{Complete}
 use Rattle.ledger.specs.Promise.{after_fault, update_of, report_of, reported, Updates, found_after, LooksUp}
 use Rattle.ledger.proofs.History.{zeroed_fine}
 
@@ -50,7 +49,7 @@ module _ (n : ℕ) (some_slot : 0 < n) (few : n ≤ most_slots) where
       ∙ rw (le-leb (needs {A = ℕ} (width ipv4) (announce nothing [] 1)) n (omega (arith, needs_alone ℕ (width ipv4) [] 1 (omega arith))))
 
   -- AN UPDATE THAT REFUSES EVERYTHING
-  pub refuses_everything_breaks : (f : Memory → List ℕ → Memory) (answer : Memory → List ℕ → Updated)
+  pub refuses_everything_breaks : (f : Memory → List ℕ → Memory) (answer : Memory → List ℕ → Result ℕ Refused)
       → ((m : Memory) (list : List ℕ) → (report_of (answer m list)).complete ≡ false)
       → Updates (zeroed n) default (f (zeroed n) default) (answer (zeroed n) default) → ⊥
   refuses_everything_breaks f answer refuses meets =
@@ -60,7 +59,7 @@ module _ (n : ℕ) (some_slot : 0 < n) (few : n ≤ most_slots) where
       true≢false z
 
   -- A BATCH THAT REPORTS EVERY RECORD APPLIED AND APPLIED NONE
-  pub applies_none_breaks : (answer : Updated) → Updates (zeroed n) default (zeroed n) answer → ⊥
+  pub applies_none_breaks : (answer : Result ℕ Refused) → Updates (zeroed n) default (zeroed n) answer → ⊥
   applies_none_breaks answer meets =
       none_some refl
       (ap (λ L. L []) (sym (ap (λ a. a.ledger) default_taken) ∙ sym meets.ledger ∙ zeroed_ledger n (width ipv4)))
@@ -72,7 +71,7 @@ module _ (n : ℕ) (some_slot : 0 < n) (few : n ≤ most_slots) where
   not_held_lem : update_of (zeroed n) withdrawal ≡ record { refusal = some not_held; count = 0; ledger = nothing }
   not_held_lem = from_zeros n some_slot few withdrawal ∙ one_record n (withdraws []) (omega arith)
 
-  pub counts_the_input_breaks : (after : Memory) → Updates (zeroed n) withdrawal after (Complete (length withdrawal / record_bytes ipv4)) → ⊥
+  pub counts_the_input_breaks : (after : Memory) → Updates (zeroed n) withdrawal after (Ok (length withdrawal / record_bytes ipv4)) → ⊥
   counts_the_input_breaks after meets = none_some refl (sym (ap (λ a. a.refusal) (meets.answer ∙ ap reported not_held_lem)))
 
   no_route_lem : (x : ℕ) → hop_of ipv4 (ledger_of (width ipv4) (zeroed n)) x ≡ 0
@@ -80,7 +79,7 @@ module _ (n : ℕ) (some_slot : 0 < n) (few : n ≤ most_slots) where
   no_route_lem x = ap (λ L. longest L no_route (bits_of (width ipv4) x)) (zeroed_ledger n (width ipv4)) ∙ longest_nothing no_route (bits_of (width ipv4) x)
 
   -- A LOOKUP THAT ALWAYS ANSWERS 1
-  pub always_one_breaks : (answer : Memory → ℕ → Found) → ((m : Memory) (x : ℕ) → (answer_of (answer m x)).hop ≡ 1)
+  pub always_one_breaks : (answer : Memory → ℕ → Result ℕ Refused) → ((m : Memory) (x : ℕ) → (answer_of (answer m x)).hop ≡ 1)
       → (x : ℕ) → LooksUp (zeroed n) x (answer (zeroed n) x) → ⊥
   always_one_breaks answer one x meets =
       omega (arith, one (zeroed n) x, ap (λ a. a.hop) (meets.answer ∙ ap (λ o. found_after o (zeroed n) x) (zeroed_fine n some_slot few)), no_route_lem x)

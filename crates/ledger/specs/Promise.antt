@@ -1,6 +1,6 @@
 -- WHAT THE CALLS PROMISE: update and lookup on lent slices, whatever they hold. Memory is read by the layout of
 -- memory/specs/Layout, and w is the address's width.
-use Rattle.std.specs.Prelude.{◌≡◌, Bool, true, false, List, ℕ, length}
+use Rattle.std.specs.Prelude.{◌≡◌, Bool, true, false, List, ℕ, length, Result, Ok, Err}
 use Rattle.std.proofs.Math.Option.{Option, none, some}
 use Rattle.rules.specs.Numbers.{ipv4, width, no_slots}
 use Rattle.rules.specs.Plain.{Applied, complete, updated}
@@ -8,10 +8,9 @@ use Rattle.rules.specs.Lookup.{Answer, hop_of}
 use Rattle.memory.specs.Layout.{Memory, slots, ledger_of}
 use Rattle.memory.specs.Tidy.{Tidy}
 use Rattle.lent.specs.Lent.{lent_fault}
-use Rattle.lists.specs.declared.Found.{Found}
+use Rattle.refusals.specs.declared.Refused.{Refused}
+use Rattle.refusals.specs.Numbered.{number_of}
 use Rattle.lists.specs.Promise.{answer_of}
-use Rattle.ledger.specs.declared.Updated.{Updated}
-use Rattle.ledger.specs.declared.Updated.TheVariants.{Complete, Refused}
 
 -- UPDATE, as a function of what is lent: the refusal, the count of records applied, and the ledger after those
 abbrev pub after_fault : Option ℕ → Memory → List ℕ → Applied
@@ -27,9 +26,9 @@ pub record Report : Type 0 where
   pub count : ℕ
   pub complete : Bool
 
-abbrev pub report_of : Updated → Report
-report_of (Complete count) = record { refusal = none; count = count; complete = true }
-report_of (Refused number count) = record { refusal = some number; count = count; complete = false }
+abbrev pub report_of : Result ℕ Refused → Report
+report_of (Ok count) = record { refusal = none; count = count; complete = true }
+report_of (Err refused) = record { refusal = some (number_of refused.refusal); count = refused.count; complete = false }
 
 abbrev pub reported : Applied → Report
 reported a = record { refusal = a.refusal; count = a.count; complete = complete a }
@@ -41,7 +40,7 @@ pub record SameLengths (m m' : Memory) : Type 0 where
   pub ups : slots m'.tree ≡ slots m.tree
   pub hops : length m'.hop ≡ length m.hop
 
-pub record Updates (m : Memory) (list : List ℕ) (m' : Memory) (r : Updated) : Type 0 where
+pub record Updates (m : Memory) (list : List ℕ) (m' : Memory) (r : Result ℕ Refused) : Type 0 where
   -- the answer, and the ledger that is left: the count is that of the records which made it
   pub answer : report_of r ≡ reported (update_of m list)
   pub ledger : ledger_of (width ipv4) m' ≡ (update_of m list).ledger
@@ -58,5 +57,5 @@ abbrev pub found_after : Option ℕ → Memory → ℕ → Answer
 found_after none m x = record { refusal = none; hop = hop_of ipv4 (ledger_of (width ipv4) m) x; place = 0 }
 found_after (some n) m x = record { refusal = some n; hop = 0; place = 0 }
 
-pub record LooksUp (m : Memory) (address : ℕ) (r : Found) : Type 0 where
+pub record LooksUp (m : Memory) (address : ℕ) (r : Result ℕ Refused) : Type 0 where
   pub answer : answer_of r ≡ found_after (lent_fault m) m address

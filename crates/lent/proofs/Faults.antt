@@ -14,7 +14,9 @@ use Rattle.rules.specs.Numbers.{most_slots, bad_slices, no_ledger}
 use Rattle.rules.proofs.Plain.{or_none}
 use Rattle.memory.specs.Layout.{Memory, slots, Whole, holds_ledger}
 use Rattle.memory.proofs.Find.{not_none}
-use Rattle.lent.specs.Lent.{same_lengths, bad_lent, lent_fault, FaultOf}
+use Rattle.std.proofs.Common.{Ok, Err}
+use Rattle.refusals.specs.declared.Refusal.TheVariants.{BadSlices, NoLedger}
+use Rattle.lent.specs.Lent.{same_lengths, bad_lent, lent_fault, Checked}
 
 -- slices that rule 1 lets through
 pub record GoodLent (m : Memory) : Type 0 where
@@ -53,26 +55,17 @@ module _ (m : Memory) where
   }
 
   -- the tests, one after another
-  pub fault_slices : (GoodLent m → ⊥) → FaultOf m bad_slices
+  pub fault_slices : (GoodLent m → ⊥) → Checked m (Err BadSlices)
   unfolding lent_fault
-  fault_slices bad = record {
-    fine = λ e. absurd (omega arith);
-    faulty = λ e. elim (by_test (bad_lent m)) [ inl b ↦ rw b | inr b ↦ absurd (bad (good_of b)) ];
-  }
+  fault_slices bad = elim (by_test (bad_lent m)) [ inl b ↦ rw b | inr b ↦ absurd (bad (good_of b)) ]
 
-  pub fault_ledger : GoodLent m → n < get_or m.tree.up 0 0 → FaultOf m no_ledger
+  pub fault_ledger : GoodLent m → n < get_or m.tree.up 0 0 → Checked m (Err NoLedger)
   unfolding lent_fault holds_ledger
-  fault_ledger g l = record {
-    fine = λ e. absurd (omega arith);
-    faulty = λ e. rw (of_good g, lt-leb (get_or m.tree.up 0 0) n l);
-  }
+  fault_ledger g l = rw (of_good g, lt-leb (get_or m.tree.up 0 0) n l)
 
-  pub no_fault : GoodLent m → get_or m.tree.up 0 0 ≤ n → FaultOf m 0
+  pub no_fault : GoodLent m → get_or m.tree.up 0 0 ≤ n → (u : Unit {0}) → Checked m (Ok u)
   unfolding lent_fault holds_ledger
-  no_fault g l = record {
-    fine = λ e. (rw (of_good g, le-leb (get_or m.tree.up 0 0) n l), whole_of g);
-    faulty = λ other. absurd (other refl);
-  }
+  no_fault g l u = (rw (of_good g, le-leb (get_or m.tree.up 0 0) n l), whole_of g)
 
 -- what the whole call's rules let through
 pub let_through : (m : Memory) → lent_fault m ≡ none → GoodLent m

@@ -1,33 +1,31 @@
 // The rules that every call on lent slices asks first: 1, slices that make a memory; 2, a memory that holds a ledger.
+// (`as` narrows, or goes between u32, u64 and usize, where no From serves: it is proved that nothing is lost.)
 #![tactic(auto)]
 
-ghost use Rattle.memory.specs.Layout.{memory_of};
-ghost use Rattle.lent.specs.Lent.{FaultOf};
+ghost use Rattle.memory.specs.Views.{memory_in};
+ghost use Rattle.lent.specs.Lent.{Checked};
 
-use numbers::{BAD_SLICES, MOST_SLOTS, NO_LEDGER};
+use memory::{MemoryView, TreeView};
+use numbers::MOST_SLOTS;
+use refusals::Refusal;
 
-// The rules 1 and 2 for the whole call, in order: the first one's number, or 0.
-pub fn fault(lo: &[u32], hi: &[u32], up: &[u32], hop: &[u32]) -> u32
-    ensures { FaultOf (memory_of lo.now hi.now up.now hop.now) result }
+// The rules 1 and 2 for the whole call, in order: the first that is broken.
+pub fn check(memory: &MemoryView<'_>) -> Result<(), Refusal>
+    ensures { Checked (memory_in memory.now) result }
 {
+    let MemoryView {
+        tree: TreeView { lo, hi, up },
+        hop,
+    } = *memory;
     let count = up.len();
-    if lo.len() != count {
-        return BAD_SLICES;
+    if lo.len() != count || hi.len() != count || hop.len() != count {
+        return Err(Refusal::BadSlices);
     }
-    if hi.len() != count {
-        return BAD_SLICES;
+    if count == 0 || count > MOST_SLOTS {
+        return Err(Refusal::BadSlices);
     }
-    if hop.len() != count {
-        return BAD_SLICES;
+    if up[0] as usize > count {
+        return Err(Refusal::NoLedger);
     }
-    if count == 0 {
-        return BAD_SLICES;
-    }
-    if MOST_SLOTS < count {
-        return BAD_SLICES;
-    }
-    if memory::wide(up[0]) > count {
-        return NO_LEDGER;
-    }
-    0
+    Ok(())
 }

@@ -2,11 +2,9 @@
 -- no longer one is held, for it changes the ledger at its own prefix alone.
 use mathlib.Core.Path.{◌≡◌, sym, ap, ◌∙◌}
 use mathlib.Core.Logic.{inl, inr}
-use mathlib.Core.List.{List}
 use Prim.Native.Nat.{ℕ, zero, suc, ◌+◌, ◌≤◌, ◌<◌, ◌^◌}
 use native.Mathlib.Omega.{arith}
-use native.Mathlib.Numerals.{add-one}
-use lib.ListN.{length, take, get_or}
+use lib.ListN.{length, take}
 use lib.Bits.{bit_and}
 use lib.Seq.{length-take-le}
 use Rattle.theory.specs.Bits.{Bits, bits_of}
@@ -16,8 +14,10 @@ use Rattle.theory.proofs.Longest.{longest_only}
 use Rattle.theory.proofs.Updates.{announce_there, announce_elsewhere}
 use Rattle.rules.specs.Numbers.{ipv4, width, no_route}
 use Rattle.records.proofs.Prefix.{first_length_lem, begins, begins_not}
-use Rattle.lists.specs.declared.Best.{Best}
-use Rattle.lists.specs.Best.{BestIn, CanCompare, Follows}
+use Rattle.records.specs.Masks.{mask_of}
+use Rattle.std.proofs.Common.{Option, Some}
+use Rattle.lists.specs.declared.Match.{Match}
+use Rattle.lists.specs.Best.{BestIn, level_of, hop_by, CanCompare, Follows}
 
 -- the best match is the longest match
 pub best_longest : (L : Ledger ℕ) (a : Bits) (level hop : ℕ) → BestIn L a level hop → hop ≡ longest L no_route a
@@ -61,8 +61,8 @@ module _ (L : Ledger ℕ) (a p : Bits) (hop level best-hop : ℕ) (b : BestIn L 
       (λ e. d (e ∙ ap (λ j. take j a) (sym (sym long ∙ ap length e ∙ length-take-le k a m)))))
 
   -- .. and any other is the best match
-  no_shorter : level ≤ size + 1 → size ≤ length a → p ≡ take size a → BestIn (announce L p hop) a (size + 1) hop
-  no_shorter s short e = rw (add-one size) record {
+  no_shorter : level ≤ size + 1 → size ≤ length a → p ≡ take size a → BestIn (announce L p hop) a (suc size) hop
+  no_shorter s short e = record {
     holds = (short, ap (announce L p hop) (sym e) ∙ announce_there L p hop);
     no_longer = λ k l m. elsewhere k m (λ f. omega arith) ∙ b.no_longer k (omega arith) m;
   }
@@ -74,20 +74,21 @@ way x = bits_of (width ipv4) x
 abbrev route : ℕ → ℕ → Bits
 route prefix size = take size (bits_of (width ipv4) prefix)
 
-module _ {address prefix size hop : ℕ} {masks : List ℕ} (best : Best) (fits : address < 2 ^ width ipv4) (c : CanCompare prefix size masks) where
-  pub follows_shorter : size + 1 < best.level → Follows address prefix size hop best best
-  follows_shorter l = record { follows = λ L b. shorter L (way address) (route prefix size) hop best.level best.hop b size (first_length_lem (width ipv4) size prefix c.proper.within) l }
+module _ {address prefix size hop : ℕ} (best : Option Match) (fits : address < 2 ^ width ipv4) (c : CanCompare prefix size) where
+  pub follows_shorter : size + 1 < level_of best → Follows address prefix size hop best best
+  follows_shorter l = record { follows = λ L b. shorter L (way address) (route prefix size) hop (level_of best) (hop_by best) b size (first_length_lem (width ipv4) size prefix c.proper.within) l }
 
-  pub follows_elsewhere : (bit_and address (get_or masks size 0) ≡ prefix → ⊥) → Follows address prefix size hop best best
-  follows_elsewhere d = record {
-    follows = λ L b. not_begun L (way address) (route prefix size) hop best.level best.hop b size (first_length_lem (width ipv4) size prefix c.proper.within)
-        (begins_not address prefix size fits c.proper masks c.table d);
-  }
+  module _ {m : ℕ} (is : m ≡ mask_of size) where
+    pub follows_elsewhere : (bit_and address m ≡ prefix → ⊥) → Follows address prefix size hop best best
+    follows_elsewhere d = record {
+      follows = λ L b. not_begun L (way address) (route prefix size) hop (level_of best) (hop_by best) b size (first_length_lem (width ipv4) size prefix c.proper.within)
+          (begins_not address prefix size fits c.proper is d);
+    }
 
-  pub follows_taken : best.level ≤ size + 1 → bit_and address (get_or masks size 0) ≡ prefix
-      → Follows address prefix size hop best (record { level = size + 1; hop = hop })
-  follows_taken l e = record {
-    follows = λ L b. no_shorter L (way address) (route prefix size) hop best.level best.hop b size (first_length_lem (width ipv4) size prefix c.proper.within) l
-        (omega (arith, bits_length (width ipv4) address, c.proper.within))
-        (begins address prefix size fits c.proper masks c.table e);
-  }
+    pub follows_taken : level_of best ≤ size + 1 → bit_and address m ≡ prefix
+        → Follows address prefix size hop best (Some (record { size = size; hop = hop }))
+    follows_taken l e = record {
+      follows = λ L b. no_shorter L (way address) (route prefix size) hop (level_of best) (hop_by best) b size (first_length_lem (width ipv4) size prefix c.proper.within) l
+          (omega (arith, bits_length (width ipv4) address, c.proper.within))
+          (begins address prefix size fits c.proper is e);
+    }

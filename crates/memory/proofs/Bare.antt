@@ -1,5 +1,5 @@
 -- What it is for a slot to be bare, and not to be: the test taken apart.
-use Rattle.std.proofs.Common.{◌≡◌, ℕ, ◌<◌, Bool, true, false, not, eqb, ◌⊎◌, refl, inl, inr, arith, eq-eqb, ne_eqb, eqb-true}
+use Rattle.std.proofs.Common.{◌≡◌, ℕ, ◌<◌, Bool, true, false, not, eqb, ◌⊎◌, refl, inl, inr, arith, eqb-true}
 use mathlib.Core.Option.{Option, none, some}
 use borrow.Author.Tests.{eqb-false}
 use Rattle.theory.specs.Ledger.{is_held}
@@ -38,20 +38,6 @@ module _ (m : Memory) (left k : ℕ) where
 
   pub busy_child : (c : Bool) → 0 < left → child m.tree c k < slots m.tree → bare m left k ≡ false
   busy_child c l h = elim (by_test (bare m left k)) [ inl e ↦ absurd (omega (arith, bare_leaf e l c)) | inr e ↦ e ]
-
-  -- the test, as code makes it: hop, bits left, first child, second child
-  pub bare_last : is_held (hop_at m k) ≡ false → left ≡ 0 → bare m left k ≡ true
-  unfolding bare
-  bare_last e z = rw (e, eq-eqb left 0 z)
-
-  pub bare_first : is_held (hop_at m k) ≡ false → (left ≡ 0 → ⊥) → (child m.tree false k ≡ slots m.tree → ⊥) → bare m left k ≡ false
-  unfolding bare
-  bare_first e z f = rw (e, ne_eqb left 0 z, ne_eqb (child m.tree false k) (slots m.tree) f)
-
-  pub bare_second : is_held (hop_at m k) ≡ false → (left ≡ 0 → ⊥) → child m.tree false k ≡ slots m.tree
-      → bare m left k ≡ eqb (child m.tree true k) (slots m.tree)
-  unfolding bare
-  bare_second e z f = rw (e, ne_eqb left 0 z, eq-eqb (child m.tree false k) (slots m.tree) f)
 
   pub record Leads : Type 0 where
     pub bits_left : 0 < left

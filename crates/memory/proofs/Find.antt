@@ -1,5 +1,5 @@
 -- What is read from slot 0 on is a tree: a link that counts is marked with its parent and its side, so a slot has one string.
-use Rattle.std.proofs.Common.{◌≡◌, ℕ, zero, suc, ◌+◌, ◌*◌, ◌<◌, ◌≤◌, Bool, true, false, ◌&&◌, eqb, ltb, leb, ◌⊎◌, List, [], ◌∷◌, length, get_or, sym, refl, ap, ◌∙◌, subst, ap₂, inl, inr, add-one, arith, ltb-true, lt-ltb, eq-eqb, eqb-true, leb-false, leb-true}
+use Rattle.std.proofs.Common.{◌≡◌, ℕ, zero, suc, ◌+◌, ◌<◌, ◌≤◌, Bool, true, false, ◌&&◌, eqb, ltb, leb, ◌⊎◌, List, [], ◌∷◌, length, get_or, sym, refl, ap, ◌∙◌, subst, ap₂, inl, inr, add-one, arith, ltb-true, lt-ltb, eq-eqb, eqb-true, leb-false, leb-true}
 use lib.ListN.{get_or-eq_default}
 use borrow.Author.Tests.{eqb-false}
 use Rattle.theory.specs.Bits.{Bits, front}
@@ -32,10 +32,6 @@ pub record Counts (t : Tree) (b : Bool) (p c : ℕ) : Type 0 where
 pub mark_positive : (p : ℕ) (b : Bool) → 0 < mark p b
 mark_positive p true = omega arith
 mark_positive p false = omega arith
-
-pub mark_bound : (p : ℕ) (b : Bool) → mark p b ≤ 2 * p + 2
-mark_bound p true = omega arith
-mark_bound p false = omega arith
 
 pub mark_parent : (p q : ℕ) (b c : Bool) → mark p b ≡ mark q c → p ≡ q
 mark_parent p q true true e = omega arith

@@ -1,18 +1,18 @@
 -- The ledger that a memory holds: it is within the record rules in any memory, a prefix's slot has its hop, and longest match
 -- is what a walk along a path has in force.
-use Rattle.std.proofs.Common.{◌≡◌, ℕ, zero, suc, ◌+◌, ◌-◌, ◌<◌, ◌≤◌, Bool, true, false, leb, [], reverse, length, get_or, sym, refl, ap, ◌∙◌, ap₂, inl, inr, add-one, arith, lt-ltb, le-leb, leb-false, leb-true}
+use Rattle.std.proofs.Common.{◌≡◌, ℕ, zero, suc, ◌+◌, ◌-◌, ◌<◌, ◌≤◌, Bool, true, false, [], reverse, length, get_or, sym, refl, ap, ◌∙◌, ap₂, inl, inr, add-one, arith, lt-ltb, le-leb}
 use mathlib.Core.List.{reverse-reverse}
 use mathlib.Core.Option.{none, some}
 use lib.ListN.{get_or-eq_default}
 use borrow.Author.Tests.{lt-leb}
 use Rattle.theory.specs.Bits.{Bits, front, prefix_of}
 use Rattle.theory.specs.Ledger.{is_held, or_else, longest}
-use Rattle.theory.proofs.Hops.{by_test, never}
+use Rattle.theory.proofs.Hops.{never}
 use Rattle.theory.proofs.Longest.{none_some}
 use Rattle.theory.proofs.Walk.{best, prefix_length, longest_walk}
 use Rattle.rules.specs.Numbers.{highest_hop, MayAnnounce}
 use Rattle.rules.specs.Plain.{WithinRules}
-use Rattle.memory.specs.Layout.{Memory, slots, Whole, find, read_hop, hop_at, ledger_of}
+use Rattle.memory.specs.Layout.{Memory, slots, Whole, child, find, read_hop, hop_at, ledger_of}
 use Rattle.memory.proofs.Find.{same_or, below_or, none_deeper, find_le}
 
 -- What a stored number stands for.
@@ -20,7 +20,7 @@ pub hop_none : read_hop 0 ≡ none
 unfolding read_hop
 hop_none = refl
 
-pub holds_none : (v : ℕ) → v ≡ 0 → false ≡ is_held (read_hop v)
+holds_none : (v : ℕ) → v ≡ 0 → false ≡ is_held (read_hop v)
 holds_none v e = rw (e, hop_none)
 
 pub hop_high : (v : ℕ) → suc highest_hop < v → read_hop v ≡ none
@@ -30,13 +30,6 @@ hop_high v l = rw (lt-ltb 0 v (omega arith), lt-leb v (suc highest_hop) l)
 pub hop_stored : (v : ℕ) → 0 < v → v ≤ suc highest_hop → read_hop v ≡ some (v - 1)
 unfolding read_hop
 hop_stored v l h = rw (lt-ltb 0 v l, le-leb v (suc highest_hop) h)
-
-pub hop_test : (v : ℕ) → 0 < v → leb v (suc highest_hop) ≡ is_held (read_hop v)
-hop_test v l =
-    elim (by_test (leb v (suc highest_hop))) [
-      | inl e ↦ rw (e, hop_stored v l (leb-true v (suc highest_hop) e))
-      | inr e ↦ rw (e, hop_high v (leb-false v (suc highest_hop) e))
-    ]
 
 -- a number that stands for a hop lies in the hops' range moved up by 1, so it is not 0, and the hop is 1 less
 stored_range : (v : ℕ) → is_held (read_hop v) ≡ true → (0 < v) × (v ≤ suc highest_hop)
@@ -109,6 +102,15 @@ module _ (w : ℕ) (m : Memory) where
     pub longest_whole : (d : ℕ) {found : ℕ} → found ≡ best (ledger_of w m) x f d → d ≡ w → found ≡ longest (ledger_of w m) x (prefix_of f w)
     longest_whole d e q = e ∙ ap (best (ledger_of w m) x f) q ∙ sym (longest_walk (ledger_of w m) x f w)
 
+    -- where a bit has no child, the hop in force there stays ..
+    pub longest_ended : Whole m → (d : ℕ) {slot found : ℕ} {right : Bool} → slot ≡ find m.tree (front f d) → right ≡ f d
+        → child m.tree right slot ≡ slots m.tree → d < w → found ≡ best (ledger_of w m) x f d
+        → found ≡ longest (ledger_of w m) x (prefix_of f w)
+    longest_ended whole d there turn ends l q =
+        let here : find m.tree (front f (suc d)) ≡ slots m.tree = sym (ap₂ (child m.tree) turn there) ∙ ends in
+        q ∙ best_stays whole f x d w here (omega arith) (omega arith) ∙ sym (longest_walk (ledger_of w m) x f w)
+
+    -- .. and so it does where a string one bit longer has no slot
     pub longest_stopped : Whole m → (d : ℕ) {k found : ℕ} → k ≡ find m.tree (front f (d + 1)) → slots m.tree ≤ k → d < w
         → found ≡ best (ledger_of w m) x f d → found ≡ longest (ledger_of w m) x (prefix_of f w)
     longest_stopped whole d {k} {found} e n l q =

@@ -1,4 +1,5 @@
 pub mod Path
 pub mod Layout
+pub mod Views
 pub mod Reach
 pub mod Tidy

@@ -1,5 +1,5 @@
-// The numbers of document 01 that code uses, each in this one place; crates/rules/specs/Numbers.antt is the same for the statements.
-// A contract that cites one of those is proved only if the two agree.
+// The numbers of document 01 that code uses, each in this one place (those of the refusals stand in crate refusals);
+// crates/rules/specs/Numbers.antt is the same for the statements. A contract that cites one of those is proved only if the two agree.
 #![tactic(auto)]
 
 // An address has this many bytes, and so many bits; a prefix has at most as many.
@@ -10,16 +10,10 @@ pub const WIDTH: usize = 8 * ADDRESS;
 // The lengths that a prefix may have: 0 to 32.
 pub const LENGTHS: usize = WIDTH + 1;
 
-// A record is the address and so many bytes behind it: length, action and two bytes of hop, at these places.
+// A record is the address and so many bytes behind it: length, action and two bytes of hop.
 pub const FIELDS: usize = 4;
 
 pub const RECORD: usize = ADDRESS + FIELDS;
-
-pub const SIZE_AT: usize = ADDRESS;
-
-pub const ACTION_AT: usize = ADDRESS + 1;
-
-pub const HOP_AT: usize = ADDRESS + 2;
 
 // The actions.
 pub const ANNOUNCE: u8 = 1;
@@ -55,26 +49,3 @@ pub const OWN_SCRATCH: usize = SET_WORDS * OWN_SLOTS;
 pub const MOST_INPUT: usize = 4096;
 
 pub const REFUSAL: u8 = 255;
-
-// The refusals.
-pub const BAD_SLICES: u32 = 1;
-
-pub const NO_LEDGER: u32 = 2;
-
-pub const BAD_LIST_LENGTH: u32 = 3;
-
-pub const BAD_PREFIX_LENGTH: u32 = 4;
-
-pub const STRAY_BIT: u32 = 5;
-
-pub const BAD_ACTION: u32 = 6;
-
-pub const BAD_HOP: u32 = 7;
-
-pub const NOT_HELD: u32 = 8;
-
-pub const NO_SLOTS: u32 = 9;
-
-pub const SHORT_OUTPUT: u32 = 11;
-
-pub const LONG_INPUT: u32 = 12;

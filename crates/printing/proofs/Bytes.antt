@@ -6,11 +6,13 @@ use mathlib.Core.Logic.{inl, inr}
 use mathlib.Core.List.{[], ◌∷◌, ◌++◌, reverse, reverse-reverse}
 use Prim.Native.Nat.{ℕ, zero, suc, ◌+◌, ◌-◌, ◌*◌, ◌/◌, ◌%◌, ◌^◌, ◌≤◌, ◌<◌}
 use native.Mathlib.Omega.{arith}
-use native.Mathlib.Nat.{le_refl, add-zero, add-suc, zero-add, add-sub_of_le}
+use native.Mathlib.Nat.{le_refl, div-one, add-zero, add-suc, zero-add, add-sub_of_le}
 use lib.ListN.{get_or}
 use lib.Seq.{take_all}
 use lib.Dec.{eqb, ltb}
 use borrow.Author.Tests.{eqb-true, eqb-false, lt-ltb, le-ltb, ltb-true, ltb-false}
+use Rattle.std.proofs.Common.{w64}
+use Rattle.std.specs.Int.{to_be_bytes}
 use Rattle.theory.specs.Bits.{Bits, bits_of, address_of, front, prefix_of}
 use Rattle.theory.proofs.Hops.{by_test}
 use Rattle.theory.proofs.Address.{bits_length, bits_address}
@@ -70,6 +72,13 @@ byte_at : (k x j : ℕ) → j < k → get_or (bytes_of k x) j 0 ≡ x / 2 ^ (8 *
 byte_at zero x j l = absurd (omega arith)
 byte_at (suc k) x zero l = ap (λ p. x / p % 256) (pow_bytes k ∙ ap (λ e. 2 ^ e) (omega arith))
 byte_at (suc k) x (suc j) l = byte_at k x j (omega arith) ∙ ap (λ e. x / 2 ^ e % 256) (omega arith)
+
+-- .. and of a word
+word_bytes : (x : ℕ) → to_be_bytes w64 x ≡ bytes_of 8 x
+word_bytes x = rw (div-one x)
+
+pub word_byte : (x j : ℕ) → j < 8 → get_or (to_be_bytes w64 x) j 0 ≡ x / 2 ^ (56 - 8 * j) % 256
+word_byte x j l = ap (λ bs. get_or bs j 0) (word_bytes x) ∙ byte_at 8 x j l ∙ ap (λ e. x / 2 ^ e % 256) (omega arith)
 
 -- byte j of a path with what stands before it in its half, and the byte's bits in that
 abbrev up_to : Path → ℕ → ℕ

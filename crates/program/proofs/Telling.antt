@@ -16,7 +16,11 @@ use Rattle.rules.specs.Writing.{smallest_table}
 use Rattle.rules.proofs.Records.{table_length}
 use Rattle.rules.proofs.Numbered.{Between, update_between}
 use Rattle.rules.proofs.Held.{few_applied, table_fits}
-use Rattle.writing.specs.declared.Wrote.TheVariants.{Table, Refused}
+use Rattle.std.proofs.Common.{Ok, Err}
+use Rattle.refusals.specs.declared.Refused.{Refused}
+use Rattle.refusals.specs.declared.Refusal.TheVariants.{LongInput}
+use Rattle.refusals.specs.Numbered.{number_of}
+use Rattle.refusals.specs.Counted.{refused_at}
 use Rattle.fresh.specs.Promise.{Tabled, table_of, Tables}
 use Rattle.fresh.proofs.Promise.{Way, stops, short, writes_it, way}
 use Rattle.program.specs.Promise.{refusal_record, after_list, writes_for, Stands, Answers, Refuses}
@@ -54,7 +58,7 @@ module _ (input output : List ℕ) (not-long : length input ≤ most_input) (roo
             record { count = sym (table_length ipv4 T); left = ap (λ k. print_table ipv4 T ++ drop k output) (sym (table_length ipv4 T)) },
       )
 
-  pub table_stands : (output' : List ℕ) (c : ℕ) → Tables input output output' (Table c)
+  pub table_stands : (output' : List ℕ) (c : ℕ) → Tables input output output' (Ok c)
       → (c * record_bytes ipv4 ≤ length input) × Stands (writes_for input) output output' (c * record_bytes ipv4)
   table_stands output' c meets =
       subst (λ t. (t.count * record_bytes ipv4 ≤ length input) × Stands (writes_for input) output t.output (t.count * record_bytes ipv4))
@@ -81,10 +85,10 @@ module _ (input output : List ℕ) (not-long : length input ≤ most_input) (roo
   told_way t (short e l) x is = absurd (omega (arith, l, table_fits ipv4 own_slots input (omega arith), room, not-long))
   told_way t (writes_it e l) x is = none_some is refl
 
-  pub refusal_told : (output' : List ℕ) (x c : ℕ) → Tables input output output' (Refused x c) → (output' ≡ output) × Told x c
-  refusal_told output' x c meets =
-      subst (λ t. (t.output ≡ output) × Told x t.count) (sym meets.outcome)
-      (told_way (table_of own_slots input output) (way own_slots input output) x (sym (ap (λ t. t.refusal) meets.outcome)))
+  pub refusal_told : (output' : List ℕ) (x : Refused) → Tables input output output' (Err x) → (output' ≡ output) × Told (number_of x.refusal) x.count
+  refusal_told output' x meets =
+      subst (λ t. (t.output ≡ output) × Told (number_of x.refusal) t.count) (sym meets.outcome)
+      (told_way (table_of own_slots input output) (way own_slots input output) (number_of x.refusal) (sym (ap (λ t. t.refusal) meets.outcome)))
 
 -- what stands there lies within the output
 stands_within : (bytes output output' : List ℕ) (r : ℕ) → Stands bytes output output' r → r ≤ length output'
@@ -108,13 +112,13 @@ answers_short input output shorter = record {
 }
 
 pub answers_long : (input output output' : List ℕ) (r : ℕ) → most_input ≤ length output → most_input < length input
-    → Refuses long_input 0 output output' r → Answers input output output' r
-answers_long input output output' r room long refuses =
+    → (x : Refused) → x ≡ refused_at LongInput 0 → Refuses (number_of x.refusal) x.count output output' r → Answers input output output' r
+answers_long input output output' r room long x is refuses =
     answers_so input output output' r room
-    (subst (λ b. Stands b output output' r) (sym (too_long input long)) refuses.tells)
+    (subst (λ b. Stands b output output' r) (ap (λ y. refusal_record (number_of y.refusal) y.count) is ∙ sym (too_long input long)) refuses.tells)
 
 module _ (input output : List ℕ) (room : most_input ≤ length output) (fits : length input ≤ most_input) where
-  pub answers_table : (output' : List ℕ) (c : ℕ) → Tables input output output' (Table c)
+  pub answers_table : (output' : List ℕ) (c : ℕ) → Tables input output output' (Ok c)
       → (c * record_bytes ipv4 ≤ most_input) × Answers input output output' (c * record_bytes ipv4)
   answers_table output' c meets =
       let stands = table_stands input output fits room output' c meets in (
@@ -122,22 +126,22 @@ module _ (input output : List ℕ) (room : most_input ≤ length output) (fits :
         answers_so input output output' (c * record_bytes ipv4) room stands.1,
       )
 
-  module _ (output' : List ℕ) (x c : ℕ) (meets : Tables input output output' (Refused x c)) where
-    told : (output' ≡ output) × Told input output fits room x c
-    told = refusal_told input output fits room output' x c meets
+  module _ (output' : List ℕ) (x : Refused) (meets : Tables input output output' (Err x)) where
+    told : (output' ≡ output) × Told input output fits room (number_of x.refusal) x.count
+    told = refusal_told input output fits room output' x meets
 
     -- the room that telling it asks for, and what is told fits its bytes
     pub room_to_tell : record_bytes ipv4 ≤ length output'
     room_to_tell = omega (arith, room, ap length told.0)
 
-    pub number_fits : x < 256
+    pub number_fits : number_of x.refusal < 256
     number_fits = told.1.a_byte
 
-    pub place_fits : c < 4294967296
+    pub place_fits : x.count < 4294967296
     place_fits = omega (arith, told.1.near)
 
-    pub answers_refusal : (output₂ : List ℕ) (r : ℕ) → Refuses x c output' output₂ r → Answers input output output₂ r
+    pub answers_refusal : (output₂ : List ℕ) (r : ℕ) → Refuses (number_of x.refusal) x.count output' output₂ r → Answers input output output₂ r
     answers_refusal output₂ r refuses =
         answers_so input output output₂ r room
         (subst (λ b. Stands b output output₂ r) (sym told.1.at_place)
-        (subst (λ o. Stands (refusal_record x c) o output₂ r) told.0 refuses.tells))
+        (subst (λ o. Stands (refusal_record (number_of x.refusal) x.count) o output₂ r) told.0 refuses.tells))

@@ -1,27 +1,25 @@
 // What the program writes for what it reads, on slices: the smallest table, or one record that tells the refusal.
+// (`as` narrows, or goes between u32, u64 and usize, where no From serves: it is proved that nothing is lost.)
 #![tactic(auto)]
 
-ghost use Rattle.std.specs.Prelude.{◌≤◌, length};
+ghost use Rattle.std.specs.Prelude.{◌<◌, ◌≤◌, length};
 ghost use Rattle.rules.specs.Numbers.{ipv4, record_bytes};
 ghost use Rattle.program.specs.Promise.{Answers, Refuses};
+ghost use Rattle.refusals.specs.Numbered.{number_of};
 
-use numbers::{ACTION_AT, HOP_AT, LONG_INPUT, MOST_INPUT, RECORD, REFUSAL, SIZE_AT};
-use writing::Wrote;
+use numbers::{MOST_INPUT, RECORD, REFUSAL};
+use refusals::{Refusal, Refused};
 
 // One record tells the refusal: the place, high byte first, the number where a prefix's length stands, the mark where its action
 // does, and zeros.
-fn refuse(output: &mut [u8], number: u8, place: u32) -> usize
-    requires { record_bytes ipv4 ≤ length output.old }
-    ensures { Refuses number place output.old output.new result }
+fn refuse(output: &mut [u8], refused: Refused) -> usize
+    requires room { record_bytes ipv4 ≤ length output.old }
+    requires place { refused.count < 4294967296 }
+    ensures { Refuses (number_of refused.refusal) refused.count output.old output.new result }
 {
-    output[0] = (place / 16777216) as u8;
-    output[1] = (place / 65536 % 256) as u8;
-    output[2] = (place / 256 % 256) as u8;
-    output[3] = (place % 256) as u8;
-    output[SIZE_AT] = number;
-    output[ACTION_AT] = REFUSAL;
-    output[HOP_AT] = 0;
-    output[HOP_AT + 1] = 0;
+    let [a, b, c, d] = (refused.count as u32).to_be_bytes();
+    let number = refused.refusal.number() as u8;
+    output[..RECORD].copy_from_slice(&[a, b, c, d, number, REFUSAL, 0, 0]);
     RECORD
 }
 
@@ -34,11 +32,10 @@ pub fn answer(input: &[u8], output: &mut [u8]) -> usize
         return 0;
     }
     if input.len() > MOST_INPUT {
-        return refuse(output, LONG_INPUT as u8, 0);
+        return refuse(output, Refusal::LongInput.at(0));
     }
-    let wrote = fresh::table(input, output);
-    match wrote {
-        Wrote::Table { count } => count * RECORD,
-        Wrote::Refused { number, count } => refuse(output, number as u8, count as u32),
+    match fresh::table(input, output) {
+        Ok(count) => count * RECORD,
+        Err(refused) => refuse(output, refused),
     }
 }

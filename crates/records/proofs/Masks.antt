@@ -2,7 +2,6 @@
 -- behind; so it changes nothing exactly where no bit is set there.
 use mathlib.Core.Path.{◌≡◌, sym, ap, ◌∙◌}
 use mathlib.Core.Bool.{true, false, not}
-use mathlib.Core.List.{List}
 use Prim.Native.Nat.{ℕ, zero, suc, ◌+◌, ◌-◌, ◌*◌, ◌/◌, ◌%◌, ◌^◌, ◌≤◌, ◌<◌}
 use native.Mathlib.Omega.{arith}
 use native.Mathlib.Nat.{add-zero, zero-add, mod-le}
@@ -27,13 +26,16 @@ unfolding mask_table
 mask_at l h = masks_at (suc (width ipv4)) 0 l (omega arith) ∙ ap mask_of (zero-add l)
 
 -- `x & mask` is x with the bits behind the length cleared
-pub masked : (x l : ℕ) → x < 2 ^ width ipv4 → l ≤ width ipv4 → bit_and x (get_or mask_table l 0) ≡ x - x % 2 ^ (width ipv4 - l)
-masked x l fits h =
+pub cleared : (x l : ℕ) → x < 2 ^ width ipv4 → l ≤ width ipv4 → bit_and x (mask_of l) ≡ x - x % 2 ^ (width ipv4 - l)
+cleared x l fits h =
     let v = width ipv4 - l in
     let e : width ipv4 ≡ l + v = omega arith in
     let below : x < 2 ^ (l + v) = rw (← e) fits in
     let high : bit_and x (2 ^ (l + v) - 2 ^ v) ≡ x / 2 ^ v * 2 ^ v = and_high x l v ∙ ap (λ q. q * 2 ^ v) (shr_mod l v below) in
-    ap (bit_and x) (mask_at l h ∙ ap (λ n. 2 ^ n - 2 ^ v) e) ∙ high ∙ omega (arith, split x v)
+    ap (bit_and x) (ap (λ n. 2 ^ n - 2 ^ v) e) ∙ high ∙ omega (arith, split x v)
+
+pub masked : (x l : ℕ) → x < 2 ^ width ipv4 → l ≤ width ipv4 → bit_and x (get_or mask_table l 0) ≡ x - x % 2 ^ (width ipv4 - l)
+masked x l fits h = ap (bit_and x) (mask_at l h) ∙ cleared x l fits h
 
 -- a bit behind the length is set exactly where the number over 2 ^ (32 - length) leaves something, ..
 stray_bits_lem : (x l : ℕ) → l ≤ width ipv4 → stray_bits (width ipv4) l x ≡ not (eqb (x % 2 ^ (width ipv4 - l)) 0)
@@ -44,16 +46,16 @@ pub clear_tail : (x l : ℕ) → l ≤ width ipv4 → stray_bits (width ipv4) l 
 clear_tail x l h e = eqb-true _ 0 (not-false _ (sym (stray_bits_lem x l h) ∙ e))
 
 -- .. and exactly where the mask changes the number
-module _ (x l : ℕ) (fits : x < 2 ^ width ipv4) (h : l ≤ width ipv4) (masks : List ℕ) (table : masks ≡ mask_table) where
-  mask_changes : bit_and x (get_or masks l 0) ≡ x - x % 2 ^ (width ipv4 - l)
-  mask_changes = ap (λ t. bit_and x (get_or t l 0)) table ∙ masked x l fits h
+module _ (x l : ℕ) (fits : x < 2 ^ width ipv4) (h : l ≤ width ipv4) {m : ℕ} (is : m ≡ mask_of l) where
+  mask_changes : bit_and x m ≡ x - x % 2 ^ (width ipv4 - l)
+  mask_changes = ap (bit_and x) is ∙ cleared x l fits h
 
-  pub kept_clear : bit_and x (get_or masks l 0) ≡ x → stray_bits (width ipv4) l x ≡ false
+  pub kept_clear : bit_and x m ≡ x → stray_bits (width ipv4) l x ≡ false
   kept_clear e =
       let none : x % 2 ^ (width ipv4 - l) ≡ 0 = omega (arith, mask_changes, mod-le x (2 ^ (width ipv4 - l))) in
       stray_bits_lem x l h ∙ ap (λ k. not (eqb k 0)) none
 
-  pub changed_stray : (bit_and x (get_or masks l 0) ≡ x → ⊥) → stray_bits (width ipv4) l x ≡ true
+  pub changed_stray : (bit_and x m ≡ x → ⊥) → stray_bits (width ipv4) l x ≡ true
   changed_stray d =
       let some : x % 2 ^ (width ipv4 - l) ≡ 0 → ⊥ = λ z. d (omega (arith, mask_changes)) in
       stray_bits_lem x l h ∙ ap not (ne_eqb (x % 2 ^ (width ipv4 - l)) 0 some)

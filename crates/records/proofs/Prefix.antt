@@ -3,10 +3,9 @@
 use mathlib.Core.Path.{◌≡◌, sym, ap, ◌∙◌}
 use mathlib.Core.Logic.{inl, inr}
 use Prim.Native.Nat.{ℕ, zero, suc, ◌+◌, ◌-◌, ◌*◌, ◌/◌, ◌%◌, ◌^◌, ◌≤◌, ◌<◌}
-use mathlib.Core.List.{List}
 use native.Mathlib.Omega.{arith}
 use native.Mathlib.Nat.{zero-add, sub-zero, suc-sub-suc, pow-succ', mod-lt, mod-eq_of_lt}
-use lib.ListN.{length, take, get_or}
+use lib.ListN.{length, take}
 use lib.Seq.{length-take-le}
 use lib.Dec.{eqb}
 use lib.Bits.{bit_and}
@@ -17,9 +16,9 @@ use Rattle.theory.specs.Bits.{Bits, bits_of, address_of}
 use Rattle.theory.proofs.Hops.{by_test}
 use Rattle.theory.proofs.Address.{bits_length, prefix_of_address}
 use Rattle.rules.specs.Numbers.{ipv4, width}
-use Rattle.records.specs.Masks.{mask_table}
+use Rattle.records.specs.Masks.{mask_of}
 use Rattle.records.specs.Promise.{IsPrefix}
-use Rattle.records.proofs.Masks.{masked, clear_tail}
+use Rattle.records.proofs.Masks.{cleared, clear_tail}
 
 -- the first l bits' address, with the rest of the number, is the number
 prefix_rest : (w l x : ℕ) → l ≤ w → address_of w (take l (bits_of w x)) + x % 2 ^ (w - l) ≡ x % 2 ^ w
@@ -67,16 +66,16 @@ one_prefix {a} {b} {l} {m} p q e = (
 )
 
 -- A MASKED ADDRESS IS THE PREFIX'S exactly where the prefix begins the address
-module _ (x address l : ℕ) (fits : x < 2 ^ width ipv4) (p : IsPrefix address l) (masks : List ℕ) (table : masks ≡ mask_table) where
-  masked_is : bit_and x (get_or masks l 0) ≡ address_of (width ipv4) (take l (bits_of (width ipv4) x))
-  masked_is = ap (λ t. bit_and x (get_or t l 0)) table ∙ masked x l fits p.within ∙ first_bits (width ipv4) l x fits p.within
+module _ (x address l : ℕ) (fits : x < 2 ^ width ipv4) (p : IsPrefix address l) {m : ℕ} (is : m ≡ mask_of l) where
+  masked_is : bit_and x m ≡ address_of (width ipv4) (take l (bits_of (width ipv4) x))
+  masked_is = ap (bit_and x) is ∙ cleared x l fits p.within ∙ first_bits (width ipv4) l x fits p.within
 
-  pub begins : bit_and x (get_or masks l 0) ≡ address → take l (bits_of (width ipv4) address) ≡ take l (bits_of (width ipv4) x)
+  pub begins : bit_and x m ≡ address → take l (bits_of (width ipv4) address) ≡ take l (bits_of (width ipv4) x)
   begins e =
       same_address (width ipv4) (take l (bits_of (width ipv4) address)) (take l (bits_of (width ipv4) x))
       (omega (arith, first_length_lem (width ipv4) l address p.within, p.within))
       (first_length_lem (width ipv4) l address p.within ∙ sym (first_length_lem (width ipv4) l x p.within))
       (sym (prefix_address p) ∙ sym e ∙ masked_is)
 
-  pub begins_not : (bit_and x (get_or masks l 0) ≡ address → ⊥) → take l (bits_of (width ipv4) address) ≡ take l (bits_of (width ipv4) x) → ⊥
+  pub begins_not : (bit_and x m ≡ address → ⊥) → take l (bits_of (width ipv4) address) ≡ take l (bits_of (width ipv4) x) → ⊥
   begins_not d e = d (masked_is ∙ sym (ap (address_of (width ipv4)) e) ∙ sym (prefix_address p))

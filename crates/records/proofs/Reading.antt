@@ -1,22 +1,24 @@
 -- Reading one record: its fields are those that stand in its 8 bytes, and the tests, tried in the order of the rules, say which
 -- rule is the first that it breaks, or that it breaks none.
-use mathlib.Core.Path.{◌≡◌, sym, ap, ap₂, ◌∙◌}
+use mathlib.Core.Path.{◌≡◌, sym, ap, ◌∙◌}
 use mathlib.Core.Bool.{Bool, true, false, cond, not, ◌||◌, ◌&&◌}
 use mathlib.Core.List.{List, ◌∷◌}
 use mathlib.Core.Option.{none, some}
 use Prim.Native.Nat.{ℕ, suc, ◌+◌, ◌*◌, ◌^◌, ◌≤◌, ◌<◌}
 use native.Mathlib.Omega.{arith}
 use native.Mathlib.Numerals.{add-one}
-use native.Mathlib.Nat.{le_refl}
-use lib.ListN.{length, take, drop, get_or, length-drop}
-use lib.Seq.{drop-cons, take-take, take-add, drop_at, drop-drop, get_or-take, get_or-drop, length-take-le}
+use lib.ListN.{length, take, drop, get_or}
+use lib.Seq.{drop-cons}
 use lib.Dec.{eqb}
 use borrow.Author.Tests.{lt-ltb, le-ltb, eq-eqb, ne_eqb}
 use Rattle.theory.specs.Bits.{bits_of}
 use Rattle.rules.specs.Numbers.{ipv4, width, record_bytes, announce_action, withdraw_action, highest_hop, bad_prefix_length, stray_bit, bad_action, bad_hop}
-use Rattle.rules.specs.Records.{number, announces, withdraws, Fields, fields_of, Use, takes_withdrawals, stray_bits, bad_hop_for, field_rules, first_fault, Reading, means, faulty, meaning, fault_or, read}
+use Rattle.rules.specs.Records.{number, announces, withdraws, Fields, Use, takes_withdrawals, stray_bits, bad_hop_for, field_rules, first_fault, Reading, means, faulty, meaning, fault_or, read}
 use Rattle.records.specs.declared.Record.{Record}
-use Rattle.records.specs.declared.Record.TheVariants.{Announces, Withdraws, Faulty}
+use Rattle.records.specs.declared.Record.TheVariants.{Announces, Withdraws}
+use Rattle.std.proofs.Common.{Result, Ok, Err}
+use Rattle.refusals.specs.declared.Refusal.{Refusal}
+use Rattle.refusals.specs.Numbered.{number_of}
 use Rattle.records.specs.Promise.{reading_of, use_of, IsPrefix, IsFault, InBounds, ReadsRecord}
 
 -- Numbers in a list's bytes.
@@ -38,22 +40,9 @@ four_number l at h =
     drop_two l at (omega arith) ∙ ap (λ t. get_or l at 0 ∷ get_or l (at + 1) 0 ∷ t) (drop_two l (at + 2) (omega arith)) in
     ap (λ t. number (take 4 t)) whole ∙ omega (arith, later, here)
 
--- The fields of the record at `at`.
-abbrev pub fields_at : List ℕ → ℕ → ℕ → ℕ → Fields
-fields_at l at address hop = record { address = address; size = get_or l (at + 4) 0; action = get_or l (at + 5) 0; hop = hop }
-
-fields_at_lem : (l : List ℕ) (at : ℕ) → at + 8 ≤ length l
-    → fields_of ipv4 (take 8 (drop at l)) ≡ fields_at l at (number (take 4 (drop at l))) (number (take 2 (drop (at + 6) l)))
-fields_at_lem l at h =
-    let X = drop at l in
-    let long : 8 ≤ length X = omega (arith, length-drop at l) in
-    let address_is : number (take 4 (take 8 X)) ≡ number (take 4 X) = ap number (take-take 4 8 X (omega arith)) in
-    let byte : (i : ℕ) → i < 8 → get_or (take 8 X) i 0 ≡ get_or l (at + i) 0 = λ i b. get_or-take 8 X i 0 b ∙ get_or-drop at l i 0 in
-    let tail : drop 6 (take 8 X) ≡ take 2 (drop 6 X) =
-    ap (drop 6) (take-add 6 2 X) ∙ drop_at (take 6 X) (take 2 (drop 6 X)) 6 (length-take-le 6 X (omega arith)) in
-    let hop_is : number (take 2 (drop 6 (take 8 X))) ≡ number (take 2 (drop (at + 6) l)) =
-    ap (λ t. number (take 2 t)) tail ∙ ap number (take-take 2 2 (drop 6 X) (le_refl 2)) ∙ ap (λ t. number (take 2 t)) (drop-drop 6 at l) in
-    λ i. record { address = address_is i; size = byte 4 (omega arith) i; action = byte 5 (omega arith) i; hop = hop_is i }
+-- The fields of a record: the code has made numbers of its bytes.
+abbrev pub fields_with : List ℕ → ℕ → ℕ → ℕ → Fields
+fields_with l address size hop = record { address = address; size = size; action = get_or l 5 0; hop = hop }
 
 -- What the rules make of a record's fields, at any width.
 abbrev judged : Use → ℕ → Fields → Reading
@@ -111,41 +100,49 @@ uses true e = e
 uses false e = e
 
 -- The fields as the code has fetched them: address and hop are numbers of the record's bytes, length and action are bytes.
-pub record Fetched (l : List ℕ) (at address hop : ℕ) : Type 0 where
-  pub whole : at + record_bytes ipv4 ≤ length l
-  pub address_is : address ≡ number (take 4 (drop at l))
+pub record Fetched (l : List ℕ) (address size hop : ℕ) : Type 0 where
+  pub address_is : address ≡ number (take 4 l)
   pub fits : address < 2 ^ width ipv4
-  pub hop_is : hop ≡ number (take 2 (drop (at + 6) l))
+  pub size_is : size ≡ get_or l 4 0
+  pub hop_is : hop ≡ number (take 2 (drop 6 l))
 
-clean_prefix : {l : List ℕ} {at address hop : ℕ} → Fetched l at address hop → Clean (width ipv4) (fields_at l at address hop)
-    → IsPrefix address (get_or l (at + 4) 0)
+pub fetched : (l : List ℕ) (address size hop : ℕ) → length l ≡ record_bytes ipv4 → address < 2 ^ width ipv4
+    → address ≡ get_or l 0 0 * 16777216 + get_or l 1 0 * 65536 + get_or l 2 0 * 256 + get_or l 3 0
+    → size ≡ get_or l 4 0 → hop ≡ get_or l 6 0 * 256 + get_or l 7 0 → Fetched l address size hop
+fetched l address size hop long fits address_is size_is hop_is = record {
+  address_is = omega (arith, address_is, four_number l 0 (omega (arith, long)), two_number l 0 (omega (arith, long)), two_number l 2 (omega (arith, long)));
+  fits = fits;
+  size_is = size_is;
+  hop_is = omega (arith, hop_is, two_number l 6 (omega (arith, long)));
+}
+
+clean_prefix : {l : List ℕ} {address size hop : ℕ} → Fetched l address size hop → Clean (width ipv4) (fields_with l address size hop)
+    → IsPrefix address size
 clean_prefix fetched k = record { fits = fetched.fits; within = k.within; clear = k.clear }
 
 -- WHAT IS ANSWERED is what the rules make of those fields.
-module _ {l : List ℕ} {at : ℕ} {withdrawals : Bool} {address hop : ℕ} (fetched : Fetched l at address hop) where
-  answers : (r : Record) → Judged (use_of withdrawals) (width ipv4) (fields_at l at address hop) (reading_of r) → InBounds r
-      → ReadsRecord l at withdrawals r
+module _ {l : List ℕ} {withdrawals : Bool} {address size hop : ℕ} (fetched : Fetched l address size hop) where
+  answers : (r : Result Record Refusal) → Judged (use_of withdrawals) (width ipv4) (fields_with l address size hop) (reading_of r) → InBounds r
+      → ReadsRecord l withdrawals r
   unfolding read
   answers r e bounds = record {
-    reading = sym
-        (ap (judged (use_of withdrawals) (width ipv4))
-        (fields_at_lem l at fetched.whole ∙ ap₂ (fields_at l at) (sym fetched.address_is) (sym fetched.hop_is)) ∙ e.gives);
+    reading = sym (ap (judged (use_of withdrawals) (width ipv4)) (λ i. record { address = sym fetched.address_is i; size = sym fetched.size_is i; action = get_or l 5 0; hop = sym fetched.hop_is i }) ∙ e.gives);
     bounds = bounds;
   }
 
-  pub faults : {n : ℕ} → IsFault n → Judged (use_of withdrawals) (width ipv4) (fields_at l at address hop) (faulty n)
-      → ReadsRecord l at withdrawals (Faulty n)
+  pub faults : (x : Refusal) → IsFault (number_of x) → Judged (use_of withdrawals) (width ipv4) (fields_with l address size hop) (faulty (number_of x))
+      → ReadsRecord l withdrawals (Err x)
   unfolding reading_of InBounds
-  faults {n} numbered e = answers (Faulty n) e numbered
+  faults x numbered e = answers (Err x) e numbered
 
-  module _ (k : Clean (width ipv4) (fields_at l at address hop)) where
-    pub answers_announces : get_or l (at + 5) 0 ≡ announce_action → hop ≤ highest_hop
-        → ReadsRecord l at withdrawals (Announces address (get_or l (at + 4) 0) hop)
+  module _ (k : Clean (width ipv4) (fields_with l address size hop)) where
+    pub answers_announces : get_or l 5 0 ≡ announce_action → hop ≤ highest_hop
+        → ReadsRecord l withdrawals (Ok (Announces address size hop))
     unfolding reading_of InBounds
     answers_announces a high =
-        answers (Announces address (get_or l (at + 4) 0) hop) (announced k a high) (record { prefix = clean_prefix fetched k; may = high })
+        answers (Ok (Announces address size hop)) (announced k a high) (record { prefix = clean_prefix fetched k; may = high })
 
-    pub answers_withdraws : (get_or l (at + 5) 0 ≡ announce_action → ⊥) → takes_withdrawals (use_of withdrawals) ≡ true → get_or l (at + 5) 0 ≡ withdraw_action → hop ≡ 0
-        → ReadsRecord l at withdrawals (Withdraws address (get_or l (at + 4) 0))
+    pub answers_withdraws : (get_or l 5 0 ≡ announce_action → ⊥) → takes_withdrawals (use_of withdrawals) ≡ true → get_or l 5 0 ≡ withdraw_action → hop ≡ 0
+        → ReadsRecord l withdrawals (Ok (Withdraws address size))
     unfolding reading_of InBounds
-    answers_withdraws a t b h = answers (Withdraws address (get_or l (at + 4) 0)) (withdrawn k a t b h) (clean_prefix fetched k)
+    answers_withdraws a t b h = answers (Ok (Withdraws address size)) (withdrawn k a t b h) (clean_prefix fetched k)

@@ -1,24 +1,24 @@
 -- THE DIGITS OF WORDS THAT STAND ONE BEHIND THE OTHER, over how many words there are: what holds of the digits of one word holds of the digits of
 -- all. Nothing here knows how many hops there are.
-use mathlib.Core.Path.{◌≡◌, sym, ap, ap₂, fun_ext, ◌∙◌}
+use mathlib.Core.Path.{◌≡◌, refl, sym, ap, ap₂, fun_ext, ◌∙◌}
 use mathlib.Core.Logic.{inl, inr}
-use mathlib.Core.Bool.{Bool, not-not, true, false, not, ◌||◌}
-use mathlib.Core.List.{List}
+use mathlib.Core.Bool.{Bool, true, false, not, cond, ◌&&◌, ◌||◌}
+use mathlib.Core.List.{List, [], ◌∷◌}
 use Prim.Native.Nat.{ℕ, suc, ◌+◌, ◌-◌, ◌*◌, ◌/◌, ◌%◌, ◌^◌, ◌<◌}
 use native.Mathlib.Omega.{arith}
 use lib.Bits.{bit_or, and_le_r, or_add_and}
 use lib.Count.{count_trailing_zeros}
 use lib.Dec.{eqb, ltb}
-use lib.ListN.{length, get_or, set, replicate, get_or-replicate, length-replicate, get_or-eq_default}
-use lib.Seq.{get_or-set_same, get_or-set_other}
+use lib.ListN.{length, get_or, replicate, get_or-replicate, length-replicate, get_or-eq_default}
 use mir.Syntax.{w64}
 use mir.Val.{Fits}
 use borrow.Author.Tests.{eqb-true, eqb-false, eq-eqb, ne_eqb, ltb-true, ltb-false}
+use Rattle.std.specs.List.{list_all}
 use Rattle.theory.specs.Hops.{only, some_below, least}
 use Rattle.theory.proofs.Hops.{by_test}
 use Rattle.rules.specs.Numbers.{word_bits}
 use Rattle.sets.specs.Sets.{digits, digits_of}
-use Rattle.sets.proofs.Searches.{from, some_parts, least_first, least_second, some_same, least_same}
+use Rattle.sets.proofs.Searches.{from, some_parts, least_first, least_second, some_nowhere, some_same, least_same}
 use Rattle.sets.proofs.Words.{digits_zero, digits_power, some_digit, least_digit}
 
 -- what a u64 is: below 2 ^ 64
@@ -57,39 +57,96 @@ pub digits_none : (n : ℕ) → digits_of (replicate n 0) ≡ (λ k. false)
 unfolding digits_of
 digits_none n = fun_ext (λ k. ap (λ x. digits x (k % word_bits)) (zero_word n (k / word_bits)) ∙ no_digit (k % word_bits))
 
-pub digits_one : (n j : ℕ) → j < word_bits * n
-    → digits_of (set (replicate n 0) (j / word_bits) (1 * 2 ^ (j % word_bits) % 2 ^ word_bits)) ≡ only j
+module _ (n j : ℕ) (within : j < word_bits * n) (words : List ℕ) (long : length words ≡ n)
+    (each : (k : ℕ) → k < n → get_or words k 0 ≡ cond (eqb k (j / word_bits)) (1 * 2 ^ (j % word_bits) % 2 ^ word_bits) 0) where
+  its_word : get_or words (j / word_bits) 0 ≡ 1 * 2 ^ (j % word_bits) % 2 ^ word_bits
+  its_word = each (j / word_bits) (omega arith) ∙ rw (eq-eqb (j / word_bits) (j / word_bits) refl)
+
+  other_word : (k : ℕ) → (k ≡ j / word_bits → ⊥) → get_or words k 0 ≡ 0
+  other_word k other =
+      elim (by_test (ltb k n)) [
+        | inl e ↦ each k (ltb-true k n e) ∙ rw (ne_eqb k (j / word_bits) other)
+        | inr e ↦ let behind = ltb-false k n e in get_or-eq_default words 0 (omega arith)
+      ]
+
+  pub digits_one : digits_of words ≡ only j
+  unfolding digits_of
+  digits_one = fun_ext (λ k. elim (by_test (eqb (k / word_bits) (j / word_bits))) [
+    | inl e ↦
+        let same = eqb-true (k / word_bits) (j / word_bits) e in
+        ap (λ x. digits x (k % word_bits)) (ap (λ i. get_or words i 0) same ∙ its_word)
+        ∙ ap (λ x. x (k % word_bits)) (digits_power word_bits (j % word_bits) (omega arith))
+        ∙ same_digit k same
+    | inr e ↦
+        let different = eqb-false (k / word_bits) (j / word_bits) e in
+        ap (λ x. digits x (k % word_bits)) (other_word (k / word_bits) different)
+        ∙ no_digit (k % word_bits)
+        ∙ sym (ne_eqb k j (λ q. different (ap (λ x. x / word_bits) q)))
+  ])
+    where
+      same_digit : (k : ℕ) → k / word_bits ≡ j / word_bits → eqb (k % word_bits) (j % word_bits) ≡ eqb k j
+      same_digit k same =
+          elim (by_test (eqb (k % word_bits) (j % word_bits))) [
+            | inl e ↦ let too = eqb-true (k % word_bits) (j % word_bits) e in e ∙ sym (eq-eqb k j (omega arith))
+            | inr e ↦ let other = eqb-false (k % word_bits) (j % word_bits) e in e ∙ sym (ne_eqb k j (λ q. other (ap (λ x. x % word_bits) q)))
+          ]
+
+-- NO DIGIT: none is in the first k words where all of them are 0, and none in any where each is tested to be 0.
+pub none_before : (words : List ℕ) (k : ℕ) → ((i : ℕ) → i < k → get_or words i 0 ≡ 0) → some_below (word_bits * k) (digits_of words) ≡ false
 unfolding digits_of
-digits_one n j l = fun_ext (λ k. elim (by_test (eqb (k / word_bits) (j / word_bits))) [
-  | inl e ↦
-      let one_word = eqb-true (k / word_bits) (j / word_bits) e in
-      ap (λ x. digits x (k % word_bits)) (ap (λ i. get_or (set zeros (j / word_bits) word) i 0) one_word ∙ get_or-set_same zeros (j / word_bits) word 0 within)
-      ∙ ap (λ x. x (k % word_bits)) (digits_power word_bits (j % word_bits) (omega arith))
-      ∙ same_digit k one_word
-  | inr e ↦
-      let two-words = eqb-false (k / word_bits) (j / word_bits) e in
-      ap (λ x. digits x (k % word_bits)) (get_or-set_other zeros (j / word_bits) (k / word_bits) word 0 two-words ∙ zero_word n (k / word_bits))
-      ∙ no_digit (k % word_bits)
-      ∙ sym (ne_eqb k j (λ q. two-words (ap (λ x. x / word_bits) q)))
-])
+none_before words k zeros =
+    some_same (word_bits * k) _ (λ j. false) (λ j l. ap (λ x. digits x (j % word_bits)) (zeros (j / word_bits) (omega arith)) ∙ no_digit (j % word_bits))
+    ∙ some_nowhere (word_bits * k)
+
+module _ (word : ℕ) (words : List ℕ) where
+  first_digit : (j : ℕ) → j < word_bits → digits_of (word ∷ words) j ≡ digits word j
+  unfolding digits_of
+  first_digit j l =
+      let place : j / word_bits ≡ 0 = omega arith in
+      let digit : j % word_bits ≡ j = omega arith in
+      rw (place, digit)
+
+  digits_behind : from word_bits (digits_of (word ∷ words)) ≡ digits_of words
+  unfolding digits_of
+  digits_behind = fun_ext (λ k.
+      let place : (word_bits + k) / word_bits ≡ suc (k / word_bits) = omega arith in
+      let digit : (word_bits + k) % word_bits ≡ k % word_bits = omega arith in
+      rw (place, digit))
+
+pub all_zero : (words : List ℕ) → ((i : ℕ) → get_or words i 0 < 2 ^ word_bits)
+    → list_all (λ word. eqb word 0) words ≡ not (some_below (word_bits * length words) (digits_of words))
+all_zero [] fits = refl
+all_zero (word ∷ words) fits =
+    let more : word_bits * length (word ∷ words) ≡ word_bits + word_bits * length words = omega arith in
+    let here = some_same word_bits _ _ (first_digit word words) ∙ some_digit word_bits word (fits 0) in
+    let behind = ap (some_below (word_bits * length words)) (digits_behind word words) in
+    ap (λ rest. eqb word 0 && rest) (all_zero words (λ i. fits (suc i)))
+    ∙ neither (eqb word 0) (some_below (word_bits * length words) (digits_of words))
+    ∙ sym (ap not (ap (λ n. some_below n (digits_of (word ∷ words))) more
+    ∙ some_parts word_bits (word_bits * length words) (digits_of (word ∷ words))
+    ∙ ap₂ (λ p q. p || q) here behind))
   where
-    zeros : List ℕ
-    zeros = replicate n 0
+    neither : (p q : Bool) → (p && not q) ≡ not (not p || q)
+    neither true q = refl
+    neither false q = refl
 
-    word : ℕ
-    word = 1 * 2 ^ (j % word_bits) % 2 ^ word_bits
+module _ (words : List ℕ) (k : ℕ) (fits : get_or words k 0 < 2 ^ word_bits) where
+  some_here : some_below word_bits (from (word_bits * k) (digits_of words)) ≡ not (eqb (get_or words k 0) 0)
+  some_here = some_same word_bits _ _ (digit_at words k) ∙ some_digit word_bits (get_or words k 0) fits
 
-    within : j / word_bits < length zeros
-    within = omega (arith, length-replicate {A = ℕ} n 0)
+  -- THE LEAST DIGIT is in the first word that has one.
+  pub least_here : (n : ℕ) → k < n → some_below (word_bits * k) (digits_of words) ≡ false → (get_or words k 0 ≡ 0 → ⊥)
+      → least (word_bits * n) (digits_of words) ≡ word_bits * k + count_trailing_zeros word_bits (get_or words k 0)
+  least_here n l none some =
+      let rest = word_bits * (n - suc k) in
+      let split : word_bits * n ≡ word_bits * k + (word_bits + rest) = omega arith in
+      let here = from (word_bits * k) (digits_of words) in
+      let there : some_below word_bits here ≡ true = some_here ∙ ap not (ne_eqb (get_or words k 0) 0 some) in
+      ap (λ m. least m (digits_of words)) split
+      ∙ least_second (word_bits * k) (word_bits + rest) (digits_of words) none
+      ∙ ap (λ m. word_bits * k + m) (least_first word_bits rest here there ∙ least_same word_bits here _ (digit_at words k) ∙ sym (least_digit word_bits (get_or words k 0)))
 
-    same_digit : (k : ℕ) → k / word_bits ≡ j / word_bits → eqb (k % word_bits) (j % word_bits) ≡ eqb k j
-    same_digit k one_word =
-        elim (by_test (eqb (k % word_bits) (j % word_bits))) [
-          | inl e ↦ let same = eqb-true (k % word_bits) (j % word_bits) e in e ∙ sym (eq-eqb k j (omega arith))
-          | inr e ↦ let other = eqb-false (k % word_bits) (j % word_bits) e in e ∙ sym (ne_eqb k j (λ q. other (ap (λ x. x % word_bits) q)))
-        ]
-
--- THE DIGITS OF THE FIRST k WORDS: `seen`, all of them at once, is 0 exactly where there is none.
+-- THE DIGITS OF THE FIRST k WORDS, all of them at once: `seen` is 0 exactly where there is none, and a word more is one step.
 abbrev pub Seen : List ℕ → ℕ → ℕ → Type 0
 Seen words k seen = some_below (word_bits * k) (digits_of words) ≡ not (eqb seen 0)
 
@@ -102,30 +159,11 @@ either_seen a b =
           rw (e, ne_eqb (bit_or a b) 0 (λ none. some (omega (arith, or_add_and a b, and_le_r a b))))
     ]
 
-pub seen_all : (words : List ℕ) (k n seen : ℕ) → k ≡ n → Seen words k seen → eqb seen 0 ≡ not (some_below (word_bits * n) (digits_of words))
-seen_all words k n seen all so_far =
-    sym (not-not (eqb seen 0)) ∙ ap not (sym so_far) ∙ ap (λ m. not (some_below (word_bits * m) (digits_of words))) all
-
-module _ (words : List ℕ) (k : ℕ) (fits : get_or words k 0 < 2 ^ word_bits) where
-  some_here : some_below word_bits (from (word_bits * k) (digits_of words)) ≡ not (eqb (get_or words k 0) 0)
-  some_here = some_same word_bits _ _ (digit_at words k) ∙ some_digit word_bits (get_or words k 0) fits
-
-  pub seen_more : (seen : ℕ) → Seen words k seen → Seen words (k + 1) (bit_or seen (get_or words k 0))
-  seen_more seen so_far =
-      let one_more : word_bits * (k + 1) ≡ word_bits * k + word_bits = omega arith in
-      ap (λ n. some_below n (digits_of words)) one_more
-      ∙ some_parts (word_bits * k) word_bits (digits_of words)
-      ∙ ap₂ (λ p q. p || q) so_far some_here
-      ∙ either_seen seen (get_or words k 0)
-
-  -- THE LEAST DIGIT is in the first word that has one.
-  pub least_here : (n : ℕ) → k < n → Seen words k 0 → (get_or words k 0 ≡ 0 → ⊥)
-      → least (word_bits * n) (digits_of words) ≡ word_bits * k + count_trailing_zeros word_bits (get_or words k 0)
-  least_here n l none some =
-      let rest = word_bits * (n - suc k) in
-      let split : word_bits * n ≡ word_bits * k + (word_bits + rest) = omega arith in
-      let here = from (word_bits * k) (digits_of words) in
-      let there : some_below word_bits here ≡ true = some_here ∙ ap not (ne_eqb (get_or words k 0) 0 some) in
-      ap (λ m. least m (digits_of words)) split
-      ∙ least_second (word_bits * k) (word_bits + rest) (digits_of words) none
-      ∙ ap (λ m. word_bits * k + m) (least_first word_bits rest here there ∙ least_same word_bits here _ (digit_at words k) ∙ sym (least_digit word_bits (get_or words k 0)))
+pub seen_more : (words : List ℕ) (k : ℕ) → get_or words k 0 < 2 ^ word_bits
+    → (seen : ℕ) → Seen words k seen → Seen words (k + 1) (bit_or seen (get_or words k 0))
+seen_more words k fits seen so_far =
+    let one_more : word_bits * (k + 1) ≡ word_bits * k + word_bits = omega arith in
+    ap (λ n. some_below n (digits_of words)) one_more
+    ∙ some_parts (word_bits * k) word_bits (digits_of words)
+    ∙ ap₂ (λ p q. p || q) so_far (some_here words k fits)
+    ∙ either_seen seen (get_or words k 0)

@@ -4,11 +4,10 @@ use mathlib.Core.Logic.{inl, inr}
 use mathlib.Core.List.{List}
 use Prim.Native.Nat.{ℕ, ◌+◌, ◌-◌, ◌<◌, ◌≤◌, min}
 use native.Mathlib.Omega.{arith}
-use native.Mathlib.Nat.{zero-add}
-use lib.Dec.{eqb, ltb}
-use lib.ListN.{length, get_or, set, take, drop, length-take, length-drop, length-set, get_or-eq_default}
+use lib.Dec.{eqb}
+use lib.ListN.{length, get_or, set, take, drop, length-take, length-drop, length-set}
 use lib.Seq.{get_or-set_same, get_or-set_other, get_or-take, get_or-drop, ext_get_or}
-use borrow.Author.Tests.{eqb-true, eqb-false, ltb-true, ltb-false}
+use borrow.Author.Tests.{eqb-true, eqb-false}
 use Rattle.theory.proofs.Hops.{by_test}
 
 pub record Filled (word : ℕ → ℕ) (at : ℕ) (before : List ℕ) (k : ℕ) (after : List ℕ) : Type 0 where
@@ -35,17 +34,6 @@ module _ (word : ℕ → ℕ) (at : ℕ) (before : List ℕ) where
       others = λ i outside. get_or-set_other after place i v 0 (λ e. outside (omega arith) (omega arith)) ∙ so_far.others i (λ low high. outside low (omega arith));
       same_length = length-set after place v ∙ so_far.same_length;
     }
-
--- AN ARRAY THAT IS FILLED WHOLE has the words that it was filled with, and nothing behind them.
-pub filled_each : (word : ℕ → ℕ) (before : List ℕ) (n : ℕ) {after : List ℕ} → Filled word 0 before n after → length before ≡ n
-    → ((i : ℕ) → n ≤ i → word i ≡ 0) → (i : ℕ) → get_or after i 0 ≡ word i
-filled_each word before n {after} filled whole nothing i =
-    elim (by_test (ltb i n)) [
-      | inl e ↦ ap (λ j. get_or after j 0) (sym (zero-add i)) ∙ filled.written i (ltb-true i n e)
-      | inr e ↦
-          let behind = ltb-false i n e in
-          get_or-eq_default after 0 (omega (arith, filled.same_length, whole)) ∙ sym (nothing i behind)
-    ]
 
 -- A PART of a list, n words from a place on, is known by those words.
 pub part_is : (n at : ℕ) (l words : List ℕ) → length (take n (drop at l)) ≡ length words

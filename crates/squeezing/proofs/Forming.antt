@@ -1,24 +1,25 @@
 -- Forming the sets: what a call leaves in the scratch at what is no slot, at a full string and at a string with two children,
 -- and that the number of splits never outgrows the slots.
-use mathlib.Core.Path.{◌≡◌, refl, sym, ap, ap₂, subst, subst₂, ◌∙◌}
+use mathlib.Core.Path.{◌≡◌, refl, sym, ap, ap₂, subst, ◌∙◌}
 use mathlib.Core.Bool.{Bool, true, false, cond, not}
 use mathlib.Core.List.{List, [], ◌∷◌, ◌++◌, reverse, reverse-reverse}
 use mathlib.Core.Option.{Option, none, some}
-use Prim.Native.Nat.{ℕ, zero, suc, ◌+◌, ◌-◌, ◌≤◌, ◌<◌}
+use Prim.Native.Nat.{ℕ, zero, suc, ◌+◌, ◌≤◌, ◌<◌}
 use native.Mathlib.Omega.{arith}
 use lib.ListN.{length, get_or}
+use mir.Val.{bool_byte}
 use Rattle.theory.specs.Bits.{Bits}
 use Rattle.theory.specs.Hops.{Hops, only, some_below, common, join}
 use Rattle.theory.specs.Ledger.{Ledger, held, is_held, or_else, longest}
 use Rattle.theory.specs.Smallest.{Leaves, half, set_of, splits}
 use Rattle.theory.specs.Theorem.{AllAllowed}
-use Rattle.theory.proofs.Hops.{never, only_allowed}
+use Rattle.theory.proofs.Hops.{only_allowed}
 use Rattle.theory.proofs.Longest.{longest_keeps}
 use Rattle.theory.proofs.Pigeonhole.{count_within}
 use Rattle.theory.proofs.Splits.{splits_held, splits_throughout}
 use Rattle.rules.specs.Numbers.{hop_bound, highest_hop, MayAnnounce}
 use Rattle.memory.specs.Layout.{Tree, Memory, slots, Whole, child, find, hop_at}
-use Rattle.memory.proofs.Find.{none_below, one_string, not_none}
+use Rattle.memory.proofs.Find.{none_below, one_string}
 use Rattle.memory.proofs.Ledger.{read_range}
 use Rattle.sets.specs.declared.HopSet.{HopSet}
 use Rattle.sets.specs.Sets.{members, set_in, Keeps}
@@ -160,10 +161,6 @@ forms_at : (m : Memory) (a b : List ℕ) (r : Formed) {p p' w w' d d' : ℕ} →
 forms_at m a b r {p' = p'} {w = w} {w' = w'} {d = d} i j k f =
     subst (λ z. Forms m a p' w' z b r) k (subst (λ z. Forms m a p' z d b r) j (subst (λ z. Forms m a z w d b r) i f))
 
--- where the two ways of a child meet, asked for or answered at once: the scratch and the answer are those of the way taken
-pub forms_came : {m : Memory} {a b c : List ℕ} {p w d : ℕ} {q r : Formed} → c ≡ b → q ≡ r → Forms m a p w d b r → Forms m a p w d c q
-forms_came {m} {a} {p = p} {w = w} {d = d} same is f = subst₂ (Forms m a p w d) (sym same) (sym is) f
-
 pub form_full_at : (m : Memory) (a b : List ℕ) (p left d e : ℕ) (r : Formed) → Keeps a p r.set b → left ≡ 0 → e ≡ in_force m p d
     → (members r.set ≡ only e) × (r.splits ≡ 0) → Forms m a p left d b r
 form_full_at m a b p left d e r keeps full here is =
@@ -173,13 +170,9 @@ form_full_at m a b p left d e r keeps full here is =
 abbrev pub met : HopSet → HopSet → Bool
 met a b = some_below hop_bound (common (members a) (members b))
 
-pub split_one : (met : Bool) {told : Bool} → told ≡ not met → told ≡ true → ◌≡◌ {A = ℕ} 1 (cond met 0 1)
-split_one true e q = never q e
-split_one false e q = refl
-
-pub split_none : (met : Bool) {told : Bool} → told ≡ not met → told ≡ false → ◌≡◌ {A = ℕ} 0 (cond met 0 1)
-split_none true e q = refl
-split_none false e q = never e q
+pub split_is : (met : Bool) {told : Bool} {k : ℕ} → told ≡ not met → k ≡ bool_byte told → k ≡ cond met 0 1
+split_is true e is = is ∙ ap bool_byte e
+split_is false e is = is ∙ ap bool_byte e
 
 -- the splits of a string are its children's, and one more where their sets are apart
 node_splits : (N w : ℕ) (F : Leaves) (x₀ x₁ : Hops) (k₀ k₁ x : ℕ) → x₀ ≡ set_of N w (half false F) → x₁ ≡ set_of N w (half true F)
@@ -190,48 +183,32 @@ node_splits N w F x₀ x₁ k₀ k₁ x i j e₀ e₁ e =
     e ∙ ap₂ (λ y z. cond (some_below N (common y z)) 0 1) i j in
     omega arith
 
-module _ (m : Memory) (a b c : List ℕ) (p d e c₀ c₁ x : ℕ) (r₀ r₁ : Formed) (can : CanForm m a p d)
+module _ {m : Memory} {a b c : List ℕ} {p w d e c₀ c₁ : ℕ} {r₀ r₁ : Formed} (can : CanForm m a p d)
     (here : e ≡ in_force m p d) (is₀ : c₀ ≡ child m.tree false p) (is₁ : c₁ ≡ child m.tree true p)
-    (apart : x ≡ cond (met r₀.set r₁.set) 0 1) where
-  module _ (w : ℕ) (f₀ : Forms m a c₀ w e b r₀) (f₁ : Forms m b c₁ w e c r₁) where
-    g₀ : Forms m a (child m.tree false p) w (in_force m p d) b r₀
-    g₀ = forms_at m a b r₀ is₀ refl here f₀
+    (f₀ : Forms m a c₀ w e b r₀) (f₁ : Forms m b c₁ w e c r₁) where
+  g₀ : Forms m a (child m.tree false p) w (in_force m p d) b r₀
+  g₀ = forms_at m a b r₀ is₀ refl here f₀
 
-    g₁ : Forms m b (child m.tree true p) w (in_force m p d) c r₁
-    g₁ = forms_at m b c r₁ is₁ refl here f₁
+  g₁ : Forms m b (child m.tree true p) w (in_force m p d) c r₁
+  g₁ = forms_at m b c r₁ is₁ refl here f₁
 
-    total : r₀.splits + r₁.splits + x ≡ splits hop_bound (suc w) (leaves_below (suc w) m p d)
-    total =
-        node_splits hop_bound w (leaves_below (suc w) m p d) (members r₀.set) (members r₁.set) r₀.splits r₁.splits x
-        g₀.set g₁.set g₀.splits g₁.splits apart
+  total : (x : ℕ) → x ≡ cond (met r₀.set r₁.set) 0 1 → r₀.splits + r₁.splits + x ≡ splits hop_bound (suc w) (leaves_below (suc w) m p d)
+  total x apart =
+      node_splits hop_bound w (leaves_below (suc w) m p d) (members r₀.set) (members r₁.set) r₀.splits r₁.splits x
+      g₀.set g₁.set g₀.splits g₁.splits apart
 
-    room : r₀.splits + r₁.splits + x ≤ slots m.tree
-    room =
-        subst (λ k. k ≤ slots m.tree) (sym total)
-        (subst (λ k. splits hop_bound (suc w) (leaves_below (suc w) m k d) ≤ slots m.tree) can.lies
-        (splits_room m can.whole (suc w) can.string d can.hop))
+  pub form_room : (x : ℕ) → x ≡ cond (met r₀.set r₁.set) 0 1 → r₀.splits + r₁.splits + x ≤ slots m.tree
+  form_room x apart =
+      subst (λ k. k ≤ slots m.tree) (sym (total x apart))
+      (subst (λ k. splits hop_bound (suc w) (leaves_below (suc w) m k d) ≤ slots m.tree) can.lies
+      (splits_room m can.whole (suc w) can.string d can.hop))
 
-    step : (r : Formed) (after : List ℕ) → p < slots m.tree → Keeps c p r.set after
-        → members r.set ≡ join hop_bound (members r₀.set) (members r₁.set) → r.splits ≡ r₀.splits + r₁.splits + x
-        → Forms m a p (suc w) d after r
-    step r after l keeps joined sum = form_node m a b c after p w d r₀ r₁ r can l g₀ g₁ keeps joined (sum ∙ total)
+  -- the children's splits alone, before it is known whether their sets are apart
+  pub form_sum : r₀.splits + r₁.splits ≤ slots m.tree
+  form_sum = omega (arith, form_room (cond (met r₀.set r₁.set) 0 1) refl)
 
-  one_less : (left : ℕ) → (left ≡ 0 → ⊥) → suc (left - 1) ≡ left
-  one_less left more = omega (arith, not_none left more)
-
-  pub form_room : (left : ℕ) → Forms m a c₀ (left - 1) e b r₀ → Forms m b c₁ (left - 1) e c r₁ → r₀.splits + r₁.splits + x ≤ slots m.tree
-  form_room left f₀ f₁ = room (left - 1) f₀ f₁
-
-  pub form_step : (left : ℕ) (r : Formed) (after : List ℕ) → p < slots m.tree → (left ≡ 0 → ⊥) → Forms m a c₀ (left - 1) e b r₀
-      → Forms m b c₁ (left - 1) e c r₁ → Keeps c p r.set after
+  pub form_step : (left x : ℕ) (r : Formed) {after : List ℕ} → x ≡ cond (met r₀.set r₁.set) 0 1 → left ≡ suc w → p < slots m.tree → Keeps c p r.set after
       → members r.set ≡ join hop_bound (members r₀.set) (members r₁.set) → r.splits ≡ r₀.splits + r₁.splits + x
       → Forms m a p left d after r
-  form_step left r after l more f₀ f₁ keeps joined sum =
-      forms_at m a after r refl (one_less left more) refl (step (left - 1) f₀ f₁ r after l keeps joined sum)
-
--- the children's splits alone, before it is known whether their sets are apart
-pub form_sum : (m : Memory) (a b c : List ℕ) (p d e c₀ c₁ : ℕ) (r₀ r₁ : Formed) → CanForm m a p d → e ≡ in_force m p d
-    → c₀ ≡ child m.tree false p → c₁ ≡ child m.tree true p → (left : ℕ) → Forms m a c₀ (left - 1) e b r₀ → Forms m b c₁ (left - 1) e c r₁
-    → r₀.splits + r₁.splits ≤ slots m.tree
-form_sum m a b c p d e c₀ c₁ r₀ r₁ can here is₀ is₁ left f₀ f₁ =
-    omega (arith, form_room m a b c p d e c₀ c₁ (cond (met r₀.set r₁.set) 0 1) r₀ r₁ can here is₀ is₁ refl left f₀ f₁)
+  form_step left x r {after} apart more l keeps joined sum =
+      forms_at m a after r refl (sym more) refl (form_node m a b c after p w d r₀ r₁ r can l g₀ g₁ keeps joined (sum ∙ total x apart))

@@ -1,3 +1,4 @@
+pub mod Slots
 pub mod Below
 pub mod Forming
 pub mod Entering

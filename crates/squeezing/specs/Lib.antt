@@ -1,3 +1,5 @@
+pub mod Slots
 pub mod Below
 pub mod Stored
 pub mod Entries
+pub mod Source

@@ -1,19 +1,31 @@
 // The smallest table of what lent memory holds: sets upward, entries downward. A walk down uses up one of the address's
-// bits that are left, so both end. Half of all children are no slot: they are answered on the spot, for a call costs more.
+// bits that are left, so both end. Each is two functions that call one another, for any string and for one that has a slot. Half of
+// all children have none: they are answered on the spot, and for this the function for any string is put into the one that calls it.
+// (As calls of their own they made the whole of writing take 1.7 times as long.)
 #![tactic(auto)]
 
-ghost use Rattle.std.specs.Prelude.{◌≡◌, ◌<◌, ◌≤◌};
+ghost use Rattle.std.specs.Prelude.{◌≡◌, ◌<◌};
 ghost use Rattle.theory.specs.Hops.{only};
 ghost use Rattle.theory.specs.Smallest.{split};
 ghost use Rattle.rules.specs.Numbers.{hop_bound, MayAnnounce};
-ghost use Rattle.memory.specs.Layout.{memory_of};
-ghost use Rattle.sets.specs.Sets.{members, set_in, HasWords};
+ghost use Rattle.memory.specs.Layout.{slots};
+ghost use Rattle.memory.specs.Views.{memory_in, tree_in};
+ghost use Rattle.sets.specs.Sets.{members};
+ghost use Rattle.squeezing.specs.Slots.{slot_number};
 ghost use Rattle.squeezing.specs.Stored.{CanForm, Forms};
-ghost use Rattle.squeezing.specs.Entries.{Puts, string_of, table_below, CanEnter, Enters, CanWrite};
+ghost use Rattle.squeezing.specs.Entries.{CanEnter, Enters};
+ghost use Rattle.squeezing.specs.Source.{CanWriteFrom, PutsFrom};
 
-use memory::Path;
+use memory::{MemoryView, Path};
 use numbers::FIELDS;
 use sets::HopSet;
+
+// How far down a string is: the bits that it is short of an address, and the hop that is in force above it in the ledger.
+#[derive(Clone, Copy)]
+pub struct Level {
+    pub left: usize,
+    pub above: u32,
+}
 
 // The set of a string, and how many strings from it on have children whose sets are apart.
 #[derive(Clone, Copy)]
@@ -28,7 +40,7 @@ fn throughout(hop: u32) -> Formed
     ensures { (members result.set ≡ only hop) × (result.splits ≡ 0) }
 {
     Formed {
-        set: sets::only(hop),
+        set: HopSet::only(hop),
         splits: 0,
     }
 }
@@ -37,49 +49,48 @@ fn throughout(hop: u32) -> Formed
 fn split(a: HopSet, b: HopSet) -> usize
     ensures { result ≡ split hop_bound (members a) (members b) }
 {
-    if sets::apart(a, b) {
-        return 1;
-    }
-    0
+    usize::from(a.apart(b))
 }
 
-// The sets of the strings from a slot's string on, `left` bits before the full ones: each into its slot's words of the scratch.
+// The sets of the strings from a string on: each into its slot's words of the scratch.
+#[cycle(form)]
+#[inline(always)]
 pub fn form_sets(
-    lo: &[u32],
-    hi: &[u32],
-    up: &[u32],
-    hop: &[u32],
+    memory: &MemoryView,
     scratch: &mut [u64],
-    slot: usize,
-    left: usize,
-    above: u32,
+    slot: Option<usize>,
+    level: Level,
 ) -> Formed
-    requires { CanForm (memory_of lo.now hi.now up.now hop.now) scratch.old slot above }
-    ensures { Forms (memory_of lo.now hi.now up.now hop.now) scratch.old slot left above scratch.new result }
+    requires { CanForm (memory_in memory.now) scratch.old (slot_number (memory_in memory.now) slot) level.above }
+    ensures { let m = memory_in memory.now in
+        Forms m scratch.old (slot_number m slot) level.left level.above scratch.new result }
 {
-    if slot >= up.len() {
-        return throughout(above);
+    match slot {
+        Some(slot) if slot < memory.tree.slots() => form_slot(memory, scratch, slot, level),
+        _ => throughout(level.above),
     }
-    let here = memory::hop_or(hop[slot], above);
+}
+
+// The same where the string has a slot.
+#[cycle(form)]
+fn form_slot(memory: &MemoryView, scratch: &mut [u64], slot: usize, level: Level) -> Formed
+    requires can { CanForm (memory_in memory.now) scratch.old slot level.above }
+    requires there { slot < slots (tree_in memory.now.tree) }
+    ensures { Forms (memory_in memory.now) scratch.old slot level.left level.above scratch.new result }
+{
+    let here = memory::hop_or(memory.hop[slot], level.above);
     let own = throughout(here);
-    if left == 0 {
-        sets::keep(scratch, slot, own.set);
+    let Some(left) = level.left.checked_sub(1) else {
+        own.set.keep(scratch, slot);
         return own;
-    }
-    let low = memory::child_of(lo, hi, up, slot, false);
-    let zero = if low < up.len() {
-        form_sets(lo, hi, up, hop, scratch, low, left - 1, here)
-    } else {
-        own
     };
-    let high = memory::child_of(lo, hi, up, slot, true);
-    let one = if high < up.len() {
-        form_sets(lo, hi, up, hop, scratch, high, left - 1, here)
-    } else {
-        own
-    };
-    let set = sets::join(zero.set, one.set);
-    sets::keep(scratch, slot, set);
+    let below = Level { left, above: here };
+    let low = memory.tree.child(slot, false);
+    let zero = form_sets(memory, scratch, low, below);
+    let high = memory.tree.child(slot, true);
+    let one = form_sets(memory, scratch, high, below);
+    let set = zero.set.join(one.set);
+    set.keep(scratch, slot);
     Formed {
         set,
         splits: zero.splits + one.splits + split(zero.set, one.set),
@@ -93,118 +104,101 @@ pub struct Standing {
     pub at: usize,
 }
 
-// The set of a slot's string as it was kept; where there is no slot, of `slots`, one hop goes throughout.
-fn set_of(scratch: &[u64], slot: usize, slots: usize, above: u32) -> HopSet
-    requires { MayAnnounce above × (slot < slots → HasWords scratch.now slot) }
-    ensures there { slot < slots → members result ≡ set_in scratch.now slot }
-    ensures beyond { slots ≤ slot → members result ≡ only above }
-{
-    if slot < slots {
-        return sets::kept(scratch, slot);
-    }
-    sets::only(above)
-}
-
-// A string gets no entry if the hop in force above is in its set; else one with the least hop of the set.
+// A string gets no entry if the hop in force above is in its set; else one with the least hop of the set. (Put into its callers as
+// well: it is what is done for a child that has no slot.)
+#[inline(always)]
 fn enter(
     output: &mut [u8],
-    at: usize,
     bytes: usize,
     path: Path,
     left: usize,
     set: HopSet,
-    chosen: u32,
+    standing: Standing,
 ) -> Standing
-    requires { CanEnter bytes left path set chosen at output.old × MayAnnounce chosen }
-    ensures { Enters bytes left path set chosen at output.old output.new result }
+    requires { CanEnter bytes left path set standing.hop standing.at output.old × MayAnnounce standing.hop }
+    ensures { Enters bytes left path set standing.hop standing.at output.old output.new result }
 {
-    if sets::has(set, chosen) {
-        return Standing { hop: chosen, at };
+    if set.has(standing.hop) {
+        return standing;
     }
-    let hop = sets::least(set);
-    printing::put_record(output, at, bytes, path, 8 * bytes - left, hop);
+    let hop = set.least();
+    printing::put_record(output, standing.at, bytes, path, 8 * bytes - left, hop);
     Standing {
         hop,
-        at: at + bytes + FIELDS,
+        at: standing.at + bytes + FIELDS,
     }
 }
 
-// The entries from a slot's string on, put into the output from `at` on: its own, those below its 0, those below its 1. `path` is
-// the string, `left` bits short of an address of `bytes` bytes; `above` is in force above it in the ledger, `chosen` in the table.
+// What a table is written from: the memory, its sets in the scratch, and how many bytes an address has.
+#[derive(Clone, Copy)]
+pub struct Source<'a> {
+    pub memory: MemoryView<'a>,
+    pub scratch: &'a [u64],
+    pub bytes: usize,
+}
+
+// The entries from a string on, put into the output: its own, those below its 0, those below its 1. `path` is the string; the answer
+// is the place behind the last record.
+#[cycle(write)]
+#[inline(always)]
 pub fn write_entries(
-    lo: &[u32],
-    hi: &[u32],
-    up: &[u32],
-    hop: &[u32],
-    scratch: &[u64],
+    source: &Source,
+    output: &mut [u8],
+    slot: Option<usize>,
+    level: Level,
+    path: Path,
+    standing: Standing,
+) -> usize
+    requires { CanWriteFrom source.now (slot_number (memory_in source.now.memory) slot) level path standing output.old }
+    ensures { PutsFrom source.now (slot_number (memory_in source.now.memory) slot) level path standing output.old result output.new }
+{
+    match slot {
+        Some(slot) if slot < source.memory.tree.slots() => write_slot(
+            source, output, slot, level, path, standing,
+        ),
+        _ => enter(
+            output,
+            source.bytes,
+            path,
+            level.left,
+            HopSet::only(level.above),
+            standing,
+        )
+        .at,
+    }
+}
+
+// The same where the string has a slot.
+#[cycle(write)]
+fn write_slot(
+    source: &Source,
     output: &mut [u8],
     slot: usize,
-    left: usize,
-    above: u32,
-    chosen: u32,
+    level: Level,
     path: Path,
-    bytes: usize,
-    at: usize,
+    standing: Standing,
 ) -> usize
-    requires { CanWrite (memory_of lo.now hi.now up.now hop.now) scratch.now bytes slot left above chosen at path output.old }
-    ensures { Puts bytes (string_of bytes left path) (table_below left (memory_of lo.now hi.now up.now hop.now) slot above chosen) at output.old result output.new }
+    requires can { CanWriteFrom source.now slot level path standing output.old }
+    requires there { slot < slots (tree_in source.now.memory.tree) }
+    ensures { PutsFrom source.now slot level path standing output.old result output.new }
 {
-    let here = enter(
-        output,
-        at,
-        bytes,
-        path,
-        left,
-        set_of(scratch, slot, up.len(), above),
-        chosen,
-    );
-    if slot >= up.len() {
+    let set = HopSet::kept(source.scratch, slot);
+    let here = enter(output, source.bytes, path, level.left, set, standing);
+    let Some(left) = level.left.checked_sub(1) else {
         return here.at;
-    }
-    if left == 0 {
-        return here.at;
-    }
-    let held = memory::hop_or(hop[slot], above);
-    let own = sets::only(held);
-    let low = memory::child_of(lo, hi, up, slot, false);
-    let middle = if low < up.len() {
-        write_entries(
-            lo,
-            hi,
-            up,
-            hop,
-            scratch,
-            output,
-            low,
-            left - 1,
-            held,
-            here.hop,
-            path,
-            bytes,
-            here.at,
-        )
-    } else {
-        enter(output, here.at, bytes, path, left - 1, own, here.hop).at
     };
-    let right = printing::set_bit(path, 8 * bytes - left);
-    let high = memory::child_of(lo, hi, up, slot, true);
-    if high < up.len() {
-        write_entries(
-            lo,
-            hi,
-            up,
-            hop,
-            scratch,
-            output,
-            high,
-            left - 1,
-            held,
-            here.hop,
-            right,
-            bytes,
-            middle,
-        )
-    } else {
-        enter(output, middle, bytes, right, left - 1, own, here.hop).at
-    }
+    let held = memory::hop_or(source.memory.hop[slot], level.above);
+    let below = Level { left, above: held };
+    let low = source.memory.tree.child(slot, false);
+    let middle = write_entries(source, output, low, below, path, here);
+    let right = printing::set_bit(path, 8 * source.bytes - level.left);
+    let high = source.memory.tree.child(slot, true);
+    write_entries(
+        source,
+        output,
+        high,
+        below,
+        right,
+        Standing { at: middle, ..here },
+    )
 }

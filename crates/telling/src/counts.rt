@@ -7,8 +7,5 @@ pub fn prefix_len(asked: isize, list: &[u8]) -> usize
     ensures in_bounds { IsPrefixLen result list.now }
     ensures value { result ≡ clamp_len asked (length list.now) }
 {
-    if asked < 0 {
-        return 0;
-    }
-    (asked as usize).min(list.len())
+    usize::try_from(asked).unwrap_or(0).min(list.len())
 }

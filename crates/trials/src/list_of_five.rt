@@ -1,31 +1,38 @@
-// A list of five records in lent bytes.
+// A list of five records, of which one may be bad.
+ghost use Rattle.std.specs.Prelude.{◌<◌};
+
 use numbers::RECORD;
-use telling::change::{announce, bytes_of};
+use telling::change::{RawRecord, announce};
 
-// Its records, and its bytes.
-const PLACES: usize = 5;
+const COUNT: usize = 5;
 
-pub const LIST: usize = PLACES * RECORD;
+// Each record as it stands in the list.
+pub type List = [[u8; RECORD]; COUNT];
 
-// The record at a place of the list is written over.
-pub fn put(list: &mut [u8; LIST], place: usize, change: u64) {
-    if place < PLACES {
-        let at = place * RECORD;
-        let bytes = bytes_of(change);
-        let mut i: usize = 0;
-        while i < RECORD {
-            list[at + i] = bytes[i];
-            i += 1;
-        }
-    }
+// Where a bad record is tried: at the first, at a middle and at the last place.
+pub const PLACES: [usize; 3] = [0, 2, 4];
+
+pub fn list_of(records: [RawRecord; COUNT]) -> List {
+    records.map(|record| record.to_bytes())
 }
 
 // Five routes that need ten slots. Each is the longest match of one of the five addresses that `look_around` looks up, so that the
 // lookups show which of them are held.
-pub fn put_good(list: &mut [u8; LIST]) {
-    put(list, 0, announce(0, 0, 1));
-    put(list, 1, announce(0, 4, 2));
-    put(list, 2, announce(0x40000000, 2, 3));
-    put(list, 3, announce(0x80000000, 2, 4));
-    put(list, 4, announce(0xC0000000, 3, 5));
+pub fn good() -> [RawRecord; COUNT] {
+    [
+        announce(0, 0, 1),
+        announce(0, 4, 2),
+        announce(0x40000000, 2, 3),
+        announce(0x80000000, 2, 4),
+        announce(0xC0000000, 3, 5),
+    ]
+}
+
+// The good list with another record at a place.
+pub fn good_but(bad: RawRecord, place: usize) -> List
+    requires { place < 5 }
+{
+    let mut records = good();
+    records[place] = bad;
+    list_of(records)
 }

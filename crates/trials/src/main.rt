@@ -6,7 +6,7 @@
 mod lengths; // lengths.rt: how many elements each slice has
 mod list_of_five; // list_of_five.rt: a list of five records
 mod list_lookups; // list_lookups.rt: lookup in a record list
-mod refusals; // refusals.rt: a refused record in a list of good ones
+mod refused; // refused.rt: a refused record in a list of good ones
 mod room; // room.rt: memory with no slot to spare
 mod rubbish; // rubbish.rt: memory that our calls did not make
 mod one_record; // one_record.rt: updates with one record, the first rule that it breaks
@@ -14,7 +14,7 @@ mod one_record; // one_record.rt: updates with one record, the first rule that i
 use std::io;
 
 fn main(rt: HostRuntime) -> io::Result<()> {
-    refusals::refusals(&rt)?;
+    refused::refused(&rt)?;
     one_record::one_record(&rt)?;
     list_lookups::list_lookups(&rt)?;
     room::room(&rt)?;

@@ -15,16 +15,16 @@ use Rattle.theory.specs.Ledger.{Ledger, Entry}
 use Rattle.theory.specs.Smallest.{Leaves, set_of, table, splits}
 use Rattle.theory.specs.Theorem.{leaves}
 use Rattle.theory.proofs.Hops.{by_test}
-use Rattle.rules.specs.Numbers.{ipv4, width, record_bytes, discard, MayAnnounce, hop_bound, no_route, scratch_words, bad_slices, short_output}
+use Rattle.rules.specs.Numbers.{ipv4, width, record_bytes, discard, MayAnnounce, hop_bound, no_route, scratch_words}
 use Rattle.rules.specs.Records.{print_table}
 use Rattle.rules.specs.Writing.{smallest_table}
 use Rattle.rules.proofs.Records.{table_length}
 use Rattle.rules.proofs.Smallest.{count_splits}
 use Rattle.memory.specs.declared.Path.{Path}
 use Rattle.memory.specs.Path.{path_bit}
-use Rattle.memory.specs.Layout.{Memory, slots, ledger_of, zeros}
+use Rattle.memory.specs.Layout.{Memory, slots, Whole, ledger_of, zeros}
 use Rattle.memory.proofs.Ledger.{within_rules}
-use Rattle.lent.specs.Lent.{bad_lent, lent_fault, FaultOf}
+use Rattle.lent.specs.Lent.{bad_lent, lent_fault, Checked}
 use Rattle.sets.specs.Sets.{members}
 use Rattle.printing.specs.Printing.{patch, ClearFrom}
 use Rattle.printing.proofs.Patch.{patch_front}
@@ -35,7 +35,11 @@ use Rattle.squeezing.specs.Entries.{table_below, bytes_below, Room, Puts, string
 use Rattle.squeezing.proofs.Below.{ledger_below}
 use Rattle.squeezing.proofs.Forming.{splits_room}
 use Rattle.squeezing.proofs.Entering.{bytes_top}
-use Rattle.writing.specs.declared.Wrote.TheVariants.{Table, Refused}
+use Rattle.std.proofs.Common.{Ok, Err}
+use Rattle.refusals.specs.declared.Refusal.{Refusal}
+use Rattle.refusals.specs.declared.Refusal.TheVariants.{BadSlices, ShortOutput}
+use Rattle.refusals.specs.Numbered.{number_of}
+use Rattle.refusals.specs.Counted.{refused_at}
 use Rattle.writing.specs.Promise.{outcome_of, bytes_for, into_output, write_fault, write_after, write_of, Writes}
 use Rattle.writing.specs.Steps.{Begun}
 use Rattle.writing.proofs.Promise.{fault_slices, fault_none}
@@ -84,23 +88,23 @@ module _ (m : Memory) (s : List ℕ) where
   abbrev T : List Entry
   T = smallest_table ipv4 L
 
-  refuse : (o : List ℕ) (x : ℕ) → write_fault m s ≡ some x → Writes m s o s o (Refused x 0)
+  refuse : (o : List ℕ) (x : Refusal) → write_fault m s ≡ some (number_of x) → Writes m s o s o (Err (refused_at x 0))
   unfolding write_of
   refuse o x e = record { outcome = sym (ap (λ f. write_after f m s o) e) }
 
-  pub refuse_scratch : (o : List ℕ) (a b : ℕ) → (a ≡ b → ⊥) → a ≡ length s → b ≡ scratch_words (slots m.tree) → Writes m s o s o (Refused bad_slices 0)
-  refuse_scratch o a b other is-a is_b = refuse o bad_slices (fault_slices m s (inr (λ e. other (is-a ∙ e ∙ sym is_b))))
+  pub refuse_scratch : (o : List ℕ) (a b : ℕ) → (a ≡ b → ⊥) → a ≡ length s → b ≡ scratch_words (slots m.tree) → Writes m s o s o (Err (refused_at BadSlices 0))
+  refuse_scratch o a b other is-a is_b = refuse o BadSlices (fault_slices m s (inr (λ e. other (is-a ∙ e ∙ sym is_b))))
 
   goes_on : lent_fault m ≡ none → length s ≡ scratch_words (slots m.tree) → (o : List ℕ) → write_of m s o ≡ into_output T s o
   unfolding write_of
   goes_on fine sized o = ap (λ f. write_after f m s o) (fault_none m s fine sized)
 
-  module _ (sized : length s ≡ scratch_words (slots m.tree)) (r : ℕ) (fault : FaultOf m r) where
-    pub refuse_lent : (o : List ℕ) → (r ≡ 0 → ⊥) → Writes m s o s o (Refused r 0)
-    refuse_lent o other = refuse o r (same_fault m s sized r (fault.faulty other))
+  module _ (sized : length s ≡ scratch_words (slots m.tree)) where
+    pub refuse_lent : (o : List ℕ) (x : Refusal) → Checked m (Err x) → Writes m s o s o (Err (refused_at x 0))
+    refuse_lent o x is = refuse o x (same_fault m s sized (number_of x) is)
 
-    pub begun : r ≡ 0 → Begun m s
-    begun right = record { sized = sized; fine = (fault.fine right).0; whole = (fault.fine right).1 }
+    pub begun : (lent_fault m ≡ none) × Whole m → Begun m s
+    begun checked = record { sized = sized; fine = checked.0; whole = checked.1 }
 
   -- the sets are formed from slot 0 on, with no route in force above
   module _ (b : Begun m s) where
@@ -126,12 +130,12 @@ module _ (m : Memory) (s : List ℕ) where
         counted = is ∙ counted_at ipv4 m (leaves_below w m 0 no_route) (members f.set) top f.splits top_leaves forms.set top-is forms.splits
 
         short_so : (o s₂ : List ℕ) → s₂ ≡ zeros (length s₁) → length o / record_bytes ipv4 < count
-            → Writes m s o s₂ o (Refused short_output count)
+            → Writes m s o s₂ o (Err (refused_at ShortOutput count))
         short_so o s₂ cleared short =
             let less : length o < bytes_for T = omega (arith, counted, short) in
             record {
               outcome =
-                  ap₂ (λ c z. outcome_of (Refused short_output c) z o) counted (zero_scratch s₂ cleared)
+                  ap₂ (λ c z. outcome_of (Err (refused_at ShortOutput c)) z o) counted (zero_scratch s₂ cleared)
                   ∙ sym (goes_on b.fine b.sized o ∙ rw (lt-ltb (length o) (bytes_for T) less));
             }
 
@@ -153,14 +157,14 @@ module _ (m : Memory) (s : List ℕ) where
           }
 
           wrote_so : (s₂ o₂ : List ℕ) (at : ℕ) → Puts ipv4 (string_of ipv4 w path) (table_below w m 0 no_route discard) 0 o at o₂
-              → s₂ ≡ zeros (length s₁) → Writes m s o s₂ o₂ (Table count)
+              → s₂ ≡ zeros (length s₁) → Writes m s o s₂ o₂ (Ok count)
           wrote_so s₂ o₂ at puts cleared =
               let bytes : bytes_below ipv4 [] (table_below w m 0 no_route discard) ≡ print_table ipv4 T = ap (bytes_below ipv4 []) table_is ∙ bytes_top ipv4 T in
               let after : o₂ ≡ print_table ipv4 T ++ drop (bytes_for T) o =
               puts.bytes ∙ ap (λ l. patch 0 l o) bytes ∙ patch_front (print_table ipv4 T) o ∙ ap (λ k. print_table ipv4 T ++ drop k o) (table_length ipv4 T) in
               record {
                 outcome =
-                    (λ i. outcome_of (Table (counted i)) (zero_scratch s₂ cleared i) (after i))
+                    (λ i. outcome_of (Ok (counted i)) (zero_scratch s₂ cleared i) (after i))
                     ∙ sym (goes_on b.fine b.sized o ∙ rw (le-ltb (length o) (bytes_for T) room));
               }
 
@@ -176,7 +180,7 @@ module _ (m : Memory) (s : List ℕ) where
       module _ (top : ℕ) (top-is : top ≡ cond (members f.set discard) 0 1) where
         -- 11
         pub refuse_short : (count unit : ℕ) (o s₂ : List ℕ) → s₂ ≡ zeros (length s₁) → length o / unit < count
-            → left ≡ w → d ≡ no_route → count ≡ top + f.splits → unit ≡ record_bytes ipv4 → Writes m s o s₂ o (Refused short_output count)
+            → left ≡ w → d ≡ no_route → count ≡ top + f.splits → unit ≡ record_bytes ipv4 → Writes m s o s₂ o (Err (refused_at ShortOutput count))
         refuse_short count unit o s₂ cleared short full above is u =
             short_so s₁ f (at_top full above) top top-is count is o s₂ cleared (subst (λ n. length o / n < count) u short)
 
@@ -194,7 +198,7 @@ module _ (m : Memory) (s : List ℕ) where
           pub wrote : (e chosen at : ℕ) (o₂ : List ℕ)
               → Puts ipv4 (string_of ipv4 w (record { high = 0; low = 0 })) (table_below w m 0 e chosen) 0 o at o₂ → (s₂ : List ℕ)
               → s₂ ≡ zeros (length s₁) → left ≡ w → d ≡ no_route → count ≡ top + f.splits → unit ≡ record_bytes ipv4
-              → e ≡ no_route → chosen ≡ discard → Writes m s o s₂ o₂ (Table count)
+              → e ≡ no_route → chosen ≡ discard → Writes m s o s₂ o₂ (Ok count)
           wrote e chosen at o₂ puts s₂ cleared full above is u no-route discards =
               wrote_so s₁ f (at_top full above) top top-is count is o (room_for u) s₂ o₂ at
               (subst₂ (λ v c. Puts ipv4 (string_of ipv4 w (record { high = 0; low = 0 })) (table_below w m 0 v c) 0 o at o₂) no-route discards puts) cleared

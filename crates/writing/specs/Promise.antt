@@ -1,6 +1,6 @@
 -- WHAT WRITING PROMISES, on lent slices, whatever they hold. Working memory is lent for reading alone, so it never changes;
 -- the promise fixes the answer, and every element of the scratch and of the output after the call.
-use Rattle.std.specs.Prelude.{◌≡◌, cond, not, ◌||◌, List, [], ◌∷◌, ◌++◌, ℕ, ◌*◌, eqb, ltb, length, drop}
+use Rattle.std.specs.Prelude.{◌≡◌, cond, not, ◌||◌, List, [], ◌∷◌, ◌++◌, ℕ, ◌*◌, eqb, ltb, length, drop, Result, Ok, Err}
 use Rattle.std.proofs.Math.Option.{Option, none, some}
 use Rattle.theory.specs.Ledger.{Entry}
 use Rattle.rules.specs.Numbers.{ipv4, width, record_bytes, scratch_words, bad_slices, no_ledger, short_output}
@@ -8,8 +8,8 @@ use Rattle.rules.specs.Records.{◌refused_by◌, first_fault, print_table}
 use Rattle.rules.specs.Writing.{smallest_table}
 use Rattle.memory.specs.Layout.{Memory, slots, ledger_of, holds_ledger, zeros}
 use Rattle.lent.specs.Lent.{bad_lent}
-use Rattle.writing.specs.declared.Wrote.{Wrote}
-use Rattle.writing.specs.declared.Wrote.TheVariants.{Table, Refused}
+use Rattle.refusals.specs.declared.Refused.{Refused}
+use Rattle.refusals.specs.Numbered.{number_of}
 
 -- what a writing comes to: the refusal, the count, and what is left in the scratch and in the output
 pub record Outcome : Type 0 where
@@ -19,9 +19,10 @@ pub record Outcome : Type 0 where
   pub output : List ℕ
 
 -- the paper's number and values for each answer, beside what is left
-abbrev pub outcome_of : Wrote → List ℕ → List ℕ → Outcome
-outcome_of (Table count) scratch output = record { refusal = none; count = count; scratch = scratch; output = output }
-outcome_of (Refused number count) scratch output = record { refusal = some number; count = count; scratch = scratch; output = output }
+abbrev pub outcome_of : Result ℕ Refused → List ℕ → List ℕ → Outcome
+outcome_of (Ok count) scratch output = record { refusal = none; count = count; scratch = scratch; output = output }
+outcome_of (Err refused) scratch output =
+    record { refusal = some (number_of refused.refusal); count = refused.count; scratch = scratch; output = output }
 
 -- 1 and 2: count 0, and nothing changed
 abbrev pub unchanged : ℕ → List ℕ → List ℕ → Outcome
@@ -54,5 +55,5 @@ write_after (some x) m scratch output = unchanged x scratch output
 unfoldable pub write_of : Memory → List ℕ → List ℕ → Outcome
 write_of m scratch output = write_after (write_fault m scratch) m scratch output
 
-pub record Writes (m : Memory) (scratch output scratch' output' : List ℕ) (r : Wrote) : Type 0 where
+pub record Writes (m : Memory) (scratch output scratch' output' : List ℕ) (r : Result ℕ Refused) : Type 0 where
   pub outcome : outcome_of r scratch' output' ≡ write_of m scratch output

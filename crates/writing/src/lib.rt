@@ -1,75 +1,63 @@
 // The call that writes the smallest table of the ledger in lent memory. Every slice is taken; the call checks for itself.
 #![tactic(auto)]
 
-ghost use Rattle.std.specs.Prelude.{◌≡◌, cond, length};
+ghost use Rattle.std.specs.Prelude.{◌≡◌, cond};
 ghost use Rattle.rules.specs.Numbers.{discard};
-ghost use Rattle.memory.specs.Layout.{memory_of, zeros};
+ghost use Rattle.memory.specs.Layout.{memory_of};
+ghost use Rattle.memory.specs.Views.{memory_in};
 ghost use Rattle.sets.specs.Sets.{members};
 ghost use Rattle.writing.specs.Promise.{Writes};
 ghost use Rattle.writing.specs.Steps.{Begun};
 
-use memory::Path;
-use numbers::{ADDRESS, BAD_SLICES, DISCARD, NO_ROUTE, RECORD, SET_WORDS, SHORT_OUTPUT, WIDTH};
+use memory::{MemoryView, Path, TreeView};
+use numbers::{ADDRESS, DISCARD, NO_ROUTE, RECORD, SET_WORDS, WIDTH};
+use refusals::{Refusal, Refused};
 use sets::HopSet;
-
-// The table was written, so many records; or the call was refused by its number, with the count that document 01 gives beside it.
-#[derive(Clone, Copy)]
-pub enum Wrote {
-    Table { count: usize },
-    Refused { number: u32, count: usize },
-}
-
-// Every word of the scratch is made 0.
-fn clear(scratch: &mut [u64])
-    ensures { scratch.new ≡ zeros (length scratch.old) }
-{
-    let mut at: usize = 0;
-    while at < scratch.len() {
-        scratch[at] = 0;
-        at += 1;
-    }
-}
+use squeezing::{Level, Source, Standing};
 
 // How many entries the empty string gets, with this set: none if discard is in it, for that is in force above.
 fn top_entries(set: HopSet) -> usize
     ensures { result ≡ cond (members set discard) 0 1 }
 {
-    if sets::has(set, DISCARD) {
-        return 0;
-    }
-    1
+    usize::from(!set.has(DISCARD))
 }
 
-// Writing, once the checks have let it through.
+// Writing, once the checks have let it through: how many records there are. The walks begin at slot 0, the empty string's.
 fn squeeze(
-    lo: &[u32],
-    hi: &[u32],
-    up: &[u32],
-    hop: &[u32],
+    memory: &MemoryView<'_>,
     scratch: &mut [u64],
     output: &mut [u8],
-) -> Wrote
-    requires { Begun (memory_of lo.now hi.now up.now hop.now) scratch.old }
-    ensures { Writes (memory_of lo.now hi.now up.now hop.now) scratch.old output.old scratch.new output.new result }
+) -> Result<usize, Refused>
+    requires { Begun (memory_in memory.now) scratch.old }
+    ensures { Writes (memory_in memory.now) scratch.old output.old scratch.new output.new result }
 {
-    let formed = squeezing::form_sets(lo, hi, up, hop, scratch, 0, WIDTH, NO_ROUTE);
+    let top = Level {
+        left: WIDTH,
+        above: NO_ROUTE,
+    };
+    let formed = squeezing::form_sets(memory, scratch, Some(0), top);
     let count = top_entries(formed.set) + formed.splits;
     if output.len() / RECORD < count {
-        clear(scratch);
-        return Wrote::Refused {
-            number: SHORT_OUTPUT,
-            count,
-        };
+        scratch.fill(0);
+        return Err(Refusal::ShortOutput.at(count));
     }
-    let top = Path { high: 0, low: 0 };
-    squeezing::write_entries(
-        lo, hi, up, hop, scratch, output, 0, WIDTH, NO_ROUTE, DISCARD, top, ADDRESS, 0,
-    );
-    clear(scratch);
-    Wrote::Table { count }
+    let source = Source {
+        memory: *memory,
+        scratch,
+        bytes: ADDRESS,
+    };
+    let standing = Standing {
+        hop: DISCARD,
+        at: 0,
+    };
+    let path = Path { high: 0, low: 0 };
+    squeezing::write_entries(&source, output, Some(0), top, path, standing);
+    scratch.fill(0);
+    Ok(count)
 }
 
-// The smallest table that forwards every address as the ledger does, as records into the output; five words of scratch a slot.
+// The smallest table that forwards every address as the ledger does, as records into the output; five words of scratch a slot. The slices
+// are those that C lends.
 pub fn write(
     lo: &[u32],
     hi: &[u32],
@@ -77,21 +65,16 @@ pub fn write(
     hop: &[u32],
     scratch: &mut [u64],
     output: &mut [u8],
-) -> Wrote
+) -> Result<usize, Refused>
     ensures { Writes (memory_of lo.now hi.now up.now hop.now) scratch.old output.old scratch.new output.new result }
 {
     if scratch.len() != SET_WORDS * up.len() {
-        return Wrote::Refused {
-            number: BAD_SLICES,
-            count: 0,
-        };
+        return Err(Refusal::BadSlices.at(0));
     }
-    let fault = lent::fault(lo, hi, up, hop);
-    if fault != 0 {
-        return Wrote::Refused {
-            number: fault,
-            count: 0,
-        };
-    }
-    squeeze(lo, hi, up, hop, scratch, output)
+    let memory = MemoryView {
+        tree: TreeView { lo, hi, up },
+        hop,
+    };
+    lent::check(&memory)?;
+    squeeze(&memory, scratch, output)
 }

@@ -1,5 +1,6 @@
 // Ledgers without a default route, and discards that are announced.
-use crate::trial::{WRITE, trial};
+use crate::trial::Step::{Apply, Write};
+use crate::trial::trial;
 use crate::written::ROOM;
 use std::io;
 use telling::change::{announce, withdraw};
@@ -7,30 +8,38 @@ use telling::change::{announce, withdraw};
 fn without_default(rt: &impl Print) -> io::Result<()> {
     trial(
         rt,
-        b"all withdrawn",
+        "all withdrawn",
         2,
         ROOM,
-        &[announce(0x80000000, 1, 1), withdraw(0x80000000, 1), WRITE],
+        &[
+            Apply(announce(0x80000000, 1, 1)),
+            Apply(withdraw(0x80000000, 1)),
+            Write,
+        ],
     )?;
-    trial(rt, b"one half", 2, ROOM, &[announce(0, 1, 1), WRITE])?;
+    trial(rt, "one half", 2, ROOM, &[Apply(announce(0, 1, 1)), Write])?;
     trial(
         rt,
-        b"both halves",
+        "both halves",
         3,
         ROOM,
-        &[announce(0, 1, 1), announce(0x80000000, 1, 2), WRITE],
+        &[
+            Apply(announce(0, 1, 1)),
+            Apply(announce(0x80000000, 1, 2)),
+            Write,
+        ],
     )?;
     // 011* is the one part without a route: it gets an entry with hop 0.
     trial(
         rt,
-        b"document 001's example",
+        "document 001's example",
         6,
         ROOM,
         &[
-            announce(0, 2, 1),
-            announce(0x40000000, 3, 1),
-            announce(0x80000000, 1, 1),
-            WRITE,
+            Apply(announce(0, 2, 1)),
+            Apply(announce(0x40000000, 3, 1)),
+            Apply(announce(0x80000000, 1, 1)),
+            Write,
         ],
     )
 }
@@ -38,24 +47,32 @@ fn without_default(rt: &impl Print) -> io::Result<()> {
 fn announced(rt: &impl Print) -> io::Result<()> {
     trial(
         rt,
-        b"discard below",
+        "discard below",
         2,
         ROOM,
-        &[announce(0, 0, 1), announce(0, 1, 0), WRITE],
+        &[Apply(announce(0, 0, 1)), Apply(announce(0, 1, 0)), Write],
     )?;
     trial(
         rt,
-        b"discard above",
+        "discard above",
         2,
         ROOM,
-        &[announce(0, 0, 0), announce(0x80000000, 1, 1), WRITE],
+        &[
+            Apply(announce(0, 0, 0)),
+            Apply(announce(0x80000000, 1, 1)),
+            Write,
+        ],
     )?;
     trial(
         rt,
-        b"discards alone",
+        "discards alone",
         2,
         ROOM,
-        &[announce(0, 0, 0), announce(0x80000000, 1, 0), WRITE],
+        &[
+            Apply(announce(0, 0, 0)),
+            Apply(announce(0x80000000, 1, 0)),
+            Write,
+        ],
     )
 }
 
@@ -63,18 +80,18 @@ fn announced(rt: &impl Print) -> io::Result<()> {
 fn held(rt: &impl Print) -> io::Result<()> {
     trial(
         rt,
-        b"a discard is held",
+        "a discard is held",
         3,
         ROOM,
         &[
-            announce(0, 0, 1),
-            announce(0, 2, 0),
-            announce(0x80000000, 1, 2),
-            WRITE,
-            withdraw(0, 2),
-            announce(0x80000000, 1, 2),
-            WRITE,
-            withdraw(0, 2),
+            Apply(announce(0, 0, 1)),
+            Apply(announce(0, 2, 0)),
+            Apply(announce(0x80000000, 1, 2)),
+            Write,
+            Apply(withdraw(0, 2)),
+            Apply(announce(0x80000000, 1, 2)),
+            Write,
+            Apply(withdraw(0, 2)),
         ],
     )
 }

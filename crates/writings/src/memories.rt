@@ -1,16 +1,16 @@
 // Memory that our calls did not make: where `up[0]` is in range it is some ledger, and the table is that ledger's.
-use crate::trial::{ONES, WRITE, run};
-use crate::written::{Lent, ROOM, scratch_for, write};
+use crate::trial::Step::{Apply, Look, Write};
+use crate::trial::{ONES, run};
+use crate::written::{Beside, ROOM, scratch_for, write};
 use std::io;
-use telling::change::{LOOK, announce};
-use telling::text::{say, say_number};
-use telling::words::scatter;
-
-const HIGHEST_WORD: u32 = 0xFFFFFFFF;
+use telling::change::announce;
+use telling::crossed::{CHILD_OF_TWO, OWN_CHILD, RING_BELOW_SLOT_0};
+use telling::slots::Memory;
+use telling::words::Words;
 
 // A scratch of ones, and room for every table here.
-fn lent(words: usize) -> Lent {
-    Lent {
+fn with_scratch(words: usize) -> Beside {
+    Beside {
         words,
         fill: ONES,
         room: ROOM,
@@ -18,145 +18,73 @@ fn lent(words: usize) -> Lent {
 }
 
 // The ledger is looked at and written; then a route is announced, where there is room, and it is written again.
-fn try_memory(
-    rt: &impl Print,
-    lo: &mut [u32],
-    hi: &mut [u32],
-    up: &mut [u32],
-    hop: &mut [u32],
-) -> io::Result<()> {
-    let changes = [LOOK, WRITE, announce(0x80000000, 1, 11), WRITE];
-    let words = scratch_for(up.len());
-    run(rt, lo, hi, up, hop, &changes, lent(words))
+fn try_memory<const N: usize>(rt: &impl Print, mut memory: Memory<N>) -> io::Result<()> {
+    let steps = [Look, Write, Apply(announce(0x80000000, 1, 11)), Write];
+    let beside = with_scratch(scratch_for(N));
+    run(rt, &mut memory.lend(), beside, &steps)
 }
 
-fn four(
-    rt: &impl Print,
-    title: &[u8],
-    lo: &mut [u32; 4],
-    hi: &mut [u32; 4],
-    up: &mut [u32; 4],
-    hop: &mut [u32; 4],
-) -> io::Result<()> {
-    say(rt, b"-- 4 slots: ")?;
-    say(rt, title)?;
-    say(rt, b"\n")?;
-    try_memory(rt, lo, hi, up, hop)
-}
-
-fn own_child(rt: &impl Print) -> io::Result<()> {
-    let mut lo = [1u32, 1, 0, 0];
-    let mut hi = [1u32, 0, 0, 0];
-    let mut up = [0u32, 3, 0, 0];
-    let mut hop = [6u32, 21, 0, 0];
-    four(
-        rt,
-        b"slot 1 is its own child, and slot 0 names it on both sides",
-        &mut lo,
-        &mut hi,
-        &mut up,
-        &mut hop,
-    )
-}
-
-fn ring_below_slot_0(rt: &impl Print) -> io::Result<()> {
-    let mut lo = [1u32, 2, 1, 0];
-    let mut hi = [0u32, 0, 2, 0];
-    let mut up = [0u32, 1, 3, 0];
-    let mut hop = [6u32, 31, 32, 0];
-    four(
-        rt,
-        b"slot 1 is the child of slot 0, slot 2 of slot 1, and slot 2 names slot 1 and itself",
-        &mut lo,
-        &mut hi,
-        &mut up,
-        &mut hop,
-    )
-}
-
-fn child_of_two(rt: &impl Print) -> io::Result<()> {
-    let mut lo = [1u32, 2, 0, 0];
-    let mut hi = [2u32, 0, 0, 0];
-    let mut up = [0u32, 1, 2, 0];
-    let mut hop = [6u32, 41, 42, 0];
-    four(
-        rt,
-        b"slots 0 and 1 both name slot 2, which carries the mark of slot 0",
-        &mut lo,
-        &mut hi,
-        &mut up,
-        &mut hop,
-    )
+// Slots with more than one that names them, under a default route with hop 5, which is stored as 6.
+fn crossed(rt: &impl Print) -> io::Result<()> {
+    for (title, mut memory) in [OWN_CHILD, RING_BELOW_SLOT_0, CHILD_OF_TWO] {
+        memory.hop[0] = 6;
+        println!(rt; "-- 4 slots: {title}")?;
+        try_memory(rt, memory)?;
+    }
+    Ok(())
 }
 
 // Slots 1 to 3 are 0*, 1* and 00*. What is stored there stands for none (it would be hop 257), for a discard, and for none.
-fn stored(rt: &impl Print, title: &[u8], default: u32) -> io::Result<()> {
-    let mut lo = [1u32, 3, 0, 0];
-    let mut hi = [2u32, 0, 0, 0];
-    let mut up = [4u32, 1, 2, 3];
-    let mut hop = [default, 258, 1, HIGHEST_WORD];
-    four(rt, title, &mut lo, &mut hi, &mut up, &mut hop)
+fn stored(rt: &impl Print, default: u32, meaning: &str) -> io::Result<()> {
+    println!(rt; "-- 4 slots: the default route's hop is stored as {default}, which is {meaning}")?;
+    try_memory(
+        rt,
+        Memory {
+            lo: [1, 3, 0, 0],
+            hi: [2, 0, 0, 0],
+            up: [4, 1, 2, 3],
+            hop: [default, 258, 1, u32::MAX],
+        },
+    )
 }
 
 // Ones everywhere but in `up[0]`.
 fn filled(rt: &impl Print, mark: u32) -> io::Result<()> {
-    let cells = [HIGHEST_WORD; 12];
-    let mut up = [HIGHEST_WORD; 12];
-    up[0] = mark;
-    say(rt, b"-- 12 slots filled with 4294967295, up[0] ")?;
-    say_number(rt, mark as u64)?;
-    say(rt, b"\n")?;
+    println!(rt; "-- 12 slots filled with 4294967295, up[0] {mark}")?;
+    let mut memory = Memory::<12>::filled(u32::MAX);
+    memory.up[0] = mark;
+    let lent = memory.lend();
     // Rule 1 comes before rule 2.
-    write(rt, &cells, &cells, &up, &cells, lent(61))?;
-    write(rt, &cells, &cells, &up, &cells, lent(24))?;
-    write(rt, &cells, &cells, &up, &cells, lent(60))
+    for words in [61, 24, 60] {
+        write(rt, &lent, with_scratch(words))?;
+    }
+    Ok(())
 }
 
 // Small words, likely to be links, marks and hops.
 fn scattered(rt: &impl Print, seed: u32) -> io::Result<()> {
-    let mut lo = [0u32; 8];
-    let mut hi = [0u32; 8];
-    let mut up = [0u32; 8];
-    let mut hop = [0u32; 8];
-    say(rt, b"-- 8 slots of pseudo-random words, seed ")?;
-    say_number(rt, seed as u64)?;
-    say(rt, b"\n")?;
-    let behind_lo = scatter(&mut lo, seed, 8);
-    let behind_hi = scatter(&mut hi, behind_lo, 8);
-    let behind_up = scatter(&mut up, behind_hi, 9);
-    scatter(&mut hop, behind_up, 7);
-    try_memory(rt, &mut lo, &mut hi, &mut up, &mut hop)
+    println!(rt; "-- 8 slots of pseudo-random words, seed {seed}")?;
+    let mut memory = Memory::<8>::zeroed();
+    let mut words = Words(seed);
+    words.scatter(&mut memory.lo, 8);
+    words.scatter(&mut memory.hi, 8);
+    words.scatter(&mut memory.up, 9);
+    words.scatter(&mut memory.hop, 7);
+    try_memory(rt, memory)
 }
 
 pub fn memories(rt: &impl Print) -> io::Result<()> {
-    filled(rt, HIGHEST_WORD)?;
-    filled(rt, 13)?;
-    filled(rt, 12)?;
-    own_child(rt)?;
-    ring_below_slot_0(rt)?;
-    child_of_two(rt)?;
-    stored(
-        rt,
-        b"the default route's hop is stored as 257, which is 256",
-        257,
-    )?;
-    stored(
-        rt,
-        b"the default route's hop is stored as 258, which is none",
-        258,
-    )?;
-    stored(
-        rt,
-        b"the default route's hop is stored as 1, which is discard",
-        1,
-    )?;
-    scattered(rt, 1)?;
-    // Seeds with links that count: five routes, of which two to five are written; six with a discard that is written; and four with
-    // a discard and no default route.
-    scattered(rt, 265776)?;
-    scattered(rt, 235148)?;
-    scattered(rt, 215029)?;
-    scattered(rt, 176853)?;
-    scattered(rt, 265071)?;
-    scattered(rt, 1348941)
+    for mark in [u32::MAX, 13, 12] {
+        filled(rt, mark)?;
+    }
+    crossed(rt)?;
+    stored(rt, 257, "256")?;
+    stored(rt, 258, "none")?;
+    stored(rt, 1, "discard")?;
+    // Behind the first, seeds with links that count: five routes, of which two to five are written; six with a discard that is written;
+    // and four with a discard and no default route.
+    for seed in [1, 265776, 235148, 215029, 176853, 265071, 1348941] {
+        scattered(rt, seed)?;
+    }
+    Ok(())
 }

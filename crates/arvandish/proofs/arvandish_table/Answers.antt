@@ -3,4 +3,4 @@ use Rattle.arvandish.proofs.Tables.{told_table}
 use Rattle.arvandish.proofs.arvandish_table.Goals as goal
 
 pub returns : goal.returns
-returns c = told_table _ _ _ _ _ c.table-wrote.ensures c.wrote.ensures
+returns c = told_table _ _ _ _ _ c.table.ensures c.from.ensures

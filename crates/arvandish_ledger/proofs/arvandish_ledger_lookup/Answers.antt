@@ -2,4 +2,4 @@
 use Rattle.arvandish_ledger.proofs.arvandish_ledger_lookup.Goals as goal
 
 pub returns : goal.returns
-returns c = record { answer = c.lookup-found.result; meets = c.lookup-found.ensures; told = c.found.ensures }
+returns c = record { answer = c.lookup.result; meets = c.lookup.ensures; told = c.from.ensures }

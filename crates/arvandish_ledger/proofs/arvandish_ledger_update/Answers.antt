@@ -2,4 +2,4 @@
 use Rattle.arvandish_ledger.proofs.arvandish_ledger_update.Goals as goal
 
 pub returns : goal.returns
-returns c = record { answer = c.update-updated.result; meets = c.update-updated.ensures; told = c.updated.ensures }
+returns c = record { answer = c.update.result; meets = c.update.ensures; told = c.from.ensures }

@@ -2,4 +2,4 @@
 use Rattle.arvandish_ledger.proofs.arvandish_ledger_write.Goals as goal
 
 pub returns : goal.returns
-returns c = record { answer = c.write-wrote.result; meets = c.write-wrote.ensures; told = c.wrote.ensures }
+returns c = record { answer = c.write.result; meets = c.write.ensures; told = c.from.ensures }

@@ -1,4 +1,4 @@
--- The bytes that came lie within the buffer: those that were there, and behind them those of the last read.
+-- The bytes that came lie within the buffer.
 use Rattle.std.proofs.Common.{length, ◌-◌, ◌≤◌}
 use Rattle.squeeze.proofs.fill.Given as goal
 

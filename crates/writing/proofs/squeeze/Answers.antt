@@ -1,7 +1,5 @@
 -- Sets, then the count and the room, then the entries: each end is one law of proofs/Steps.
-use mathlib.Core.Path.{refl}
-use native.Mathlib.Omega.{arith}
-use Rattle.writing.proofs.Promise.{lengths_stay}
+use Rattle.std.proofs.Common.{refl, arith}
 use Rattle.writing.proofs.Steps.{can_form, one_at_top, few_splits, refuse_short, can_write, wrote}
 use Rattle.writing.proofs.squeeze.Goals as goal
 
@@ -15,27 +13,15 @@ overflow_add-count c =
 
 pub returns-then-output-count : goal.returns-then-output-count
 returns-then-output-count c =
-    refuse_short _ _ c.requires _ _ _ _ c.form_sets-formed.ensures _ c.top_entries.ensures _ _ _ _ c.clear.ensures c.if-output-count.true
-    refl refl refl refl
+    rw c.at.ensures (refuse_short _ _ c.requires _ _ _ _ c.form_sets-formed.ensures _ c.top_entries.ensures _ _ _ _ (c.fill.ensures.after (λ y e. e)) c.if-output-count.true
+    refl refl refl refl)
 
 pub returns : goal.returns
 returns c =
     wrote _ _ c.requires _ _ _ _ c.form_sets-formed.ensures _ c.top_entries.ensures _ _ _ c.if-output-count.false _ _ _ _
-    c.write_entries.ensures _ c.clear-2.ensures refl refl refl refl refl refl
+    c.write_entries.ensures _ (c.fill-2.ensures.after (λ y e. e)) refl refl refl refl refl refl
 
 pub write_entries-requires : goal.write_entries-requires
 write_entries-requires c =
     can_write _ _ c.requires _ _ _ _ c.form_sets-formed.ensures _ c.top_entries.ensures _ _ _ c.if-output-count.false _ _
     refl refl refl refl refl refl
-
-pub shape_of-scratch-then-output-count : goal.shape_of-scratch-then-output-count
-shape_of-scratch-then-output-count c =
-    (lengths_stay _ _ _ _ _ _ (returns-then-output-count c)).0
-
-pub shape_of-scratch : goal.shape_of-scratch
-shape_of-scratch c =
-    (lengths_stay _ _ _ _ _ _ (returns c)).0
-
-pub shape_of-output : goal.shape_of-output
-shape_of-output c =
-    (lengths_stay _ _ _ _ _ _ (returns c)).1

@@ -1,9 +1,0 @@
--- Discard is the flag alone; of another hop one word is a power of two, and nothing of it is shifted out.
-use Rattle.sets.proofs.Members.{only_discard, only_is}
-use Rattle.sets.proofs.only.Goals as goal
-
-pub returns-then-hop-eq-DISCARD : goal.returns-then-hop-eq-DISCARD
-returns-then-hop-eq-DISCARD c = only_discard _ c.if-hop-eq-DISCARD.true
-
-pub returns : goal.returns
-returns c = only_is _ c.if-hop-eq-DISCARD.false c.requires
