@@ -78,7 +78,7 @@ fn first_free(head: u32) -> usize
     if head == 0 { 1 } else { head as usize }
 }
 
-// The free slot behind a free slot.
+// The free slot behind a free slot. (0 stands for the next one, as Tidy.next_free has it.)
 fn next_free(next: u32, slot: usize) -> usize
     requires { slot < layout_slots }
     ensures { result ≡ next_free next slot }
@@ -117,7 +117,7 @@ fn head_after(head: u32, slot: usize, next: u32, count: usize) -> u32
 }
 
 // Lent memory that may be changed: the links and marks of its slots, and their hops. That the slices are still the caller's (SameLoans)
-// stands in the clause of each method, as any of them could put others there.
+// stands in the clause of each method: it relates the slices before and after, which no invariant of one value can say.
 #[derive(Drop)]
 pub struct MemoryMut<'a> {
     pub lo: &'a mut [u32],

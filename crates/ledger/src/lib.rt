@@ -69,7 +69,8 @@ pub fn update(
     apply_list(&mut MemoryMut { lo, hi, up, hop }, list)
 }
 
-// The hop of an address by longest match in the ledger held, or 0 for no route; on the four slices as C lends them.
+// The hop of an address by longest match in the ledger held, or 0 for no route (no Option: the definition found_after has a number there, and
+// so has C); on the four slices as C lends them.
 pub fn lookup(lo: &[u32], hi: &[u32], up: &[u32], hop: &[u32], address: u32) -> Result<u32, Refused>
     ensures { LooksUp (memory_of lo.now hi.now up.now hop.now) address result }
 {

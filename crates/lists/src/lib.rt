@@ -29,7 +29,8 @@ fn better(best: Option<Match>, address: u32, prefix: u32, size: usize, hop: u32)
     }
 }
 
-// A list is looked up as the ledger that its announcements would make, in order: the hop of an address, 0 for no route.
+// A list is looked up as the ledger that its announcements would make, in order: the hop of an address, 0 for no route (no Option: the
+// definition looked_up has a number there, and so has C).
 pub fn lookup_list(list: &[u8], address: u32) -> Result<u32, Refused>
     ensures { LooksUpList list.now address result }
 {

@@ -36,6 +36,7 @@ pub const MOST_SLOTS: usize = 1048576;
 // The bits of a word, the words that have one for each hop behind discard, and those of scratch that a slot's set takes: one more, for discard.
 pub const WORD_BITS: u32 = 64;
 
+// (`as`: Rust has no From from u32 to usize, and a constant calls none.)
 pub const HOP_WORDS: usize = HIGHEST_HOP as usize / WORD_BITS as usize;
 
 pub const SET_WORDS: usize = HOP_WORDS + 1;

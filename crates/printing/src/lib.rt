@@ -47,6 +47,7 @@ pub fn put_record(output: &mut [u8], at: usize, bytes: usize, path: Path, size: 
     requires { CanPrint output.old at bytes path size hop }
     ensures { output.new ≡ patch at (print bytes (announces (prefix_of (path_bit path) size) hop)) output.old }
 {
+    // (By number, as `byte_of` asks for the place.)
     for i in 0..bytes {
         output[at + i] = byte_of(path, i);
     }

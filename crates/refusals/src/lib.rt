@@ -25,6 +25,7 @@ impl Refusal {
     pub fn number(self) -> u32
         ensures { result ≡ number_of self }
     {
+        // (`as`: what an enum's variant is numbered has no From.)
         self as u32
     }
 

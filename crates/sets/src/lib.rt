@@ -119,6 +119,7 @@ impl HopSet {
         if self.discards {
             return DISCARD;
         }
+        // (A running number and no `enumerate`, whose place would have to become a u32 by `as`.)
         let mut below = FIRST_HOP;
         for word in self.words {
             if word != 0 {

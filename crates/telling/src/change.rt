@@ -35,6 +35,7 @@ pub fn announce(address: u32, size: u8, hop: u16) -> RawRecord
 pub fn withdraw(address: u32, size: u8) -> RawRecord
     ensures { IsRecord result address size 2 0 }
 {
+    // (`as`: there is no From from u32 to u16, and this is 0.)
     record(address, size, WITHDRAW, NO_HOP as u16)
 }
 

@@ -58,7 +58,7 @@ impl<const N: usize> Memory<N> {
     }
 }
 
-// What a caller lends; the slices may differ in length.
+// What a caller lends; the slices may differ in length. (Not editing's MemoryMut, which the calls make of what is lent: they take the slices.)
 #[derive(Drop)]
 pub struct Lent<'a> {
     pub lo: &'a mut [u32],

@@ -20,7 +20,8 @@ pub const ROOM: usize = 64;
 // What a byte of the output is before the call.
 pub const BLANK: u8 = 238;
 
-// A writing's answer: written or the refusal's number, and the count.
+// A writing's answer: written or the refusal's number, and the count. (As telling's UpdateAnswer but for a word: as one type each call would
+// hand in the word, which is no plainer.)
 #[derive(Clone, Copy)]
 struct WriteAnswer(Result<usize, Refused>);
 
