@@ -82,9 +82,9 @@ pub struct Met {
     pub depth: usize,
 }
 
-// The links and marks of lent memory, which make a tree of its slots: slices with slots by number, as document 01 lays them out and C lends
-// them. That they are of one length (Shaped) stays in the clauses: a view is made before `lent::check` asks that, and a type for checked
-// slices would be a third beside this one and editing's, which changes them.
+// The links and marks of lent memory, which make a tree of its slots: slices of numbers with one element a slot, as C can lend them. That
+// they are of one length (Shaped) stays in the clauses: a view is made before `lent::check` asks that, and a type for checked slices would
+// be a third beside this one and editing's, which changes them.
 #[derive(Clone, Copy)]
 pub struct TreeView<'a> {
     pub lo: &'a [u32],
@@ -118,8 +118,8 @@ impl<'a> TreeView<'a> {
         ensures { SlotOrNone (tree_in self.now) (child (tree_in self.now) right slot) result }
     {
         let next = self.link(slot, right);
-        // Links count from slot 1 on. Counted from there 0 wraps to a number behind all slots: one test for both ends, as two cost time in
-        // every step of a walk (docs/PERFORMANCE.md, "What was mended").
+        // Links count from slot 1 on. Counted from there 0 wraps to a number behind all slots: one test for both ends, one of three changes
+        // that were measured together (docs/PERFORMANCE.md, "What was mended").
         if next.wrapping_sub(1) >= self.up.len() - 1 {
             return None;
         }
