@@ -87,18 +87,18 @@ module _ {list : List ℕ} {records : List (List ℕ)} {x place : ℕ} {best : O
     on r e = a.whole ∙ ap (λ rs. onwards x a.ledger place (scan_all rs)) (read_here lookup records l is) ∙ ap (λ q. onwards x a.ledger place (scan_on q behind)) (sym e)
 
     -- a faulty record is the first one, and its place is the answer
-    pub faulty_here : {refusal : Refusal} → ReadsRecord fields false (Err refusal)
-        → LooksUpList list x (Err (refused_at refusal place))
+    pub faulty_here : {refusal : Refusal} {told : ℕ} → ReadsRecord fields false (Err refusal) → told ≡ place
+        → LooksUpList list x (Err (refused_at refusal told))
     unfolding reading_of
-    faulty_here {refusal} r = record {
+    faulty_here {refusal} r there = rw there record {
       answer = ap (λ p. record { refusal = some (number_of refusal); hop = 0; place = p }) (omega arith) ∙ sym (on (faulty (number_of refusal)) r.reading);
     }
 
     -- so is a withdrawal
-    pub withdrawal_here : {address size : ℕ} → ReadsRecord fields false (Ok (Withdraws address size))
-        → LooksUpList list x (Err (refused_at BadAction place))
+    pub withdrawal_here : {address size told : ℕ} → ReadsRecord fields false (Ok (Withdraws address size)) → told ≡ place
+        → LooksUpList list x (Err (refused_at BadAction told))
     unfolding reading_of
-    withdrawal_here {address} {size} r = record {
+    withdrawal_here {address} {size} r there = rw there record {
       answer = ap (λ p. record { refusal = some bad_action; hop = 0; place = p }) (omega arith)
           ∙ sym (on (means (withdraws (take size (bits_of (width ipv4) address)))) r.reading);
     }

@@ -13,7 +13,7 @@ use Rattle.theory.proofs.Walk.{best, prefix_length, longest_walk}
 use Rattle.rules.specs.Numbers.{highest_hop, MayAnnounce}
 use Rattle.rules.specs.Plain.{WithinRules}
 use Rattle.memory.specs.Layout.{Memory, slots, Whole, child, find, read_hop, hop_at, ledger_of}
-use Rattle.memory.proofs.Find.{same_or, below_or, none_deeper, find_le}
+use Rattle.memory.proofs.Find.{same_or, below_or, none_deeper, find_le, step_front}
 
 -- What a stored number stands for.
 pub hop_none : read_hop 0 ≡ none
@@ -102,15 +102,7 @@ module _ (w : ℕ) (m : Memory) where
     pub longest_whole : (d : ℕ) {found : ℕ} → found ≡ best (ledger_of w m) x f d → d ≡ w → found ≡ longest (ledger_of w m) x (prefix_of f w)
     longest_whole d e q = e ∙ ap (best (ledger_of w m) x f) q ∙ sym (longest_walk (ledger_of w m) x f w)
 
-    -- where a bit has no child, the hop in force there stays ..
-    pub longest_ended : Whole m → (d : ℕ) {slot found : ℕ} {right : Bool} → slot ≡ find m.tree (front f d) → right ≡ f d
-        → child m.tree right slot ≡ slots m.tree → d < w → found ≡ best (ledger_of w m) x f d
-        → found ≡ longest (ledger_of w m) x (prefix_of f w)
-    longest_ended whole d there turn ends l q =
-        let here : find m.tree (front f (suc d)) ≡ slots m.tree = sym (ap₂ (child m.tree) turn there) ∙ ends in
-        q ∙ best_stays whole f x d w here (omega arith) (omega arith) ∙ sym (longest_walk (ledger_of w m) x f w)
-
-    -- .. and so it does where a string one bit longer has no slot
+    -- where a string one bit longer has no slot, the hop in force stays ..
     pub longest_stopped : Whole m → (d : ℕ) {k found : ℕ} → k ≡ find m.tree (front f (d + 1)) → slots m.tree ≤ k → d < w
         → found ≡ best (ledger_of w m) x f d → found ≡ longest (ledger_of w m) x (prefix_of f w)
     longest_stopped whole d {k} {found} e n l q =
@@ -118,3 +110,10 @@ module _ (w : ℕ) (m : Memory) where
         let same-slot : k ≡ find m.tree (front f (suc d)) = rw add-one at e in
         omega (arith, find_le m.tree whole.shaped (front f (suc d))) in
         q ∙ best_stays whole f x d w here (omega arith) (omega arith) ∙ sym (longest_walk (ledger_of w m) x f w)
+
+    -- .. and so it does where the bit has no child
+    pub longest_ended : Whole m → (d : ℕ) {slot found : ℕ} {right : Bool} → slot ≡ find m.tree (front f d) → right ≡ f d
+        → child m.tree right slot ≡ slots m.tree → d < w → found ≡ best (ledger_of w m) x f d
+        → found ≡ longest (ledger_of w m) x (prefix_of f w)
+    longest_ended whole d there turn ends l q =
+        longest_stopped whole d (step_front m.tree f d there turn refl) (omega arith) l q

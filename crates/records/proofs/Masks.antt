@@ -25,17 +25,20 @@ pub mask_at : (l : ℕ) → l ≤ width ipv4 → get_or mask_table l 0 ≡ mask_
 unfolding mask_table
 mask_at l h = masks_at (suc (width ipv4)) 0 l (omega arith) ∙ ap mask_of (zero-add l)
 
+pub mask_in : (i l : ℕ) → i ≡ l → l ≤ width ipv4 → get_or mask_table i 0 ≡ mask_of l
+mask_in i l there h = ap (λ k. get_or mask_table k 0) there ∙ mask_at l h
+
 -- `x & mask` is x with the bits behind the length cleared
-pub cleared : (x l : ℕ) → x < 2 ^ width ipv4 → l ≤ width ipv4 → bit_and x (mask_of l) ≡ x - x % 2 ^ (width ipv4 - l)
-cleared x l fits h =
+pub masked : (x l : ℕ) → x < 2 ^ width ipv4 → l ≤ width ipv4 → bit_and x (get_or mask_table l 0) ≡ x - x % 2 ^ (width ipv4 - l)
+masked x l fits h =
     let v = width ipv4 - l in
     let e : width ipv4 ≡ l + v = omega arith in
     let below : x < 2 ^ (l + v) = rw (← e) fits in
     let high : bit_and x (2 ^ (l + v) - 2 ^ v) ≡ x / 2 ^ v * 2 ^ v = and_high x l v ∙ ap (λ q. q * 2 ^ v) (shr_mod l v below) in
-    ap (bit_and x) (ap (λ n. 2 ^ n - 2 ^ v) e) ∙ high ∙ omega (arith, split x v)
+    ap (bit_and x) (mask_at l h ∙ ap (λ n. 2 ^ n - 2 ^ v) e) ∙ high ∙ omega (arith, split x v)
 
-pub masked : (x l : ℕ) → x < 2 ^ width ipv4 → l ≤ width ipv4 → bit_and x (get_or mask_table l 0) ≡ x - x % 2 ^ (width ipv4 - l)
-masked x l fits h = ap (bit_and x) (mask_at l h) ∙ cleared x l fits h
+pub cleared : (x l : ℕ) → x < 2 ^ width ipv4 → l ≤ width ipv4 → bit_and x (mask_of l) ≡ x - x % 2 ^ (width ipv4 - l)
+cleared x l fits h = ap (bit_and x) (sym (mask_at l h)) ∙ masked x l fits h
 
 -- a bit behind the length is set exactly where the number over 2 ^ (32 - length) leaves something, ..
 stray_bits_lem : (x l : ℕ) → l ≤ width ipv4 → stray_bits (width ipv4) l x ≡ not (eqb (x % 2 ^ (width ipv4 - l)) 0)

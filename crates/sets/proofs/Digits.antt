@@ -2,23 +2,26 @@
 -- all. Nothing here knows how many hops there are.
 use mathlib.Core.Path.{◌≡◌, refl, sym, ap, ap₂, fun_ext, ◌∙◌}
 use mathlib.Core.Logic.{inl, inr}
-use mathlib.Core.Bool.{Bool, true, false, not, cond, ◌&&◌, ◌||◌}
-use mathlib.Core.List.{List, [], ◌∷◌}
-use Prim.Native.Nat.{ℕ, suc, ◌+◌, ◌-◌, ◌*◌, ◌/◌, ◌%◌, ◌^◌, ◌<◌}
+use mathlib.Core.Bool.{Bool, true, false, not, not-not, cond, ◌&&◌, ◌||◌}
+use mathlib.Core.List.{List}
+use Prim.Native.Nat.{ℕ, zero, suc, ◌+◌, ◌-◌, ◌*◌, ◌/◌, ◌%◌, ◌^◌, ◌≤◌, ◌<◌}
 use native.Mathlib.Omega.{arith}
-use lib.Bits.{bit_or, and_le_r, or_add_and}
+use native.Mathlib.Numerals.{add-one}
+use lib.Bits.{bit_or, and_le_r, or_add_and, or_zero_l}
 use lib.Count.{count_trailing_zeros}
 use lib.Dec.{eqb, ltb}
-use lib.ListN.{length, get_or, replicate, get_or-replicate, length-replicate, get_or-eq_default}
+use lib.ListN.{length, get_or, take, replicate, get_or-replicate, length-replicate, get_or-eq_default}
 use mir.Syntax.{w64}
 use mir.Val.{Fits}
 use borrow.Author.Tests.{eqb-true, eqb-false, eq-eqb, ne_eqb, ltb-true, ltb-false}
 use Rattle.std.specs.List.{list_all}
+use Rattle.std.proofs.lemmas.List.Folds.{list_all_more}
+use Rattle.std.proofs.Math.Seq.{take-length}
 use Rattle.theory.specs.Hops.{only, some_below, least}
 use Rattle.theory.proofs.Hops.{by_test}
 use Rattle.rules.specs.Numbers.{word_bits}
 use Rattle.sets.specs.Sets.{digits, digits_of}
-use Rattle.sets.proofs.Searches.{from, some_parts, least_first, least_second, some_nowhere, some_same, least_same}
+use Rattle.sets.proofs.Searches.{from, some_parts, least_first, least_second, some_same, least_same}
 use Rattle.sets.proofs.Words.{digits_zero, digits_power, some_digit, least_digit}
 
 -- what a u64 is: below 2 ^ 64
@@ -91,60 +94,9 @@ module _ (n j : ℕ) (within : j < word_bits * n) (words : List ℕ) (long : len
             | inr e ↦ let other = eqb-false (k % word_bits) (j % word_bits) e in e ∙ sym (ne_eqb k j (λ q. other (ap (λ x. x % word_bits) q)))
           ]
 
--- NO DIGIT: none is in the first k words where all of them are 0, and none in any where each is tested to be 0.
-pub none_before : (words : List ℕ) (k : ℕ) → ((i : ℕ) → i < k → get_or words i 0 ≡ 0) → some_below (word_bits * k) (digits_of words) ≡ false
-unfolding digits_of
-none_before words k zeros =
-    some_same (word_bits * k) _ (λ j. false) (λ j l. ap (λ x. digits x (j % word_bits)) (zeros (j / word_bits) (omega arith)) ∙ no_digit (j % word_bits))
-    ∙ some_nowhere (word_bits * k)
-
-module _ (word : ℕ) (words : List ℕ) where
-  first_digit : (j : ℕ) → j < word_bits → digits_of (word ∷ words) j ≡ digits word j
-  unfolding digits_of
-  first_digit j l =
-      let place : j / word_bits ≡ 0 = omega arith in
-      let digit : j % word_bits ≡ j = omega arith in
-      rw (place, digit)
-
-  digits_behind : from word_bits (digits_of (word ∷ words)) ≡ digits_of words
-  unfolding digits_of
-  digits_behind = fun_ext (λ k.
-      let place : (word_bits + k) / word_bits ≡ suc (k / word_bits) = omega arith in
-      let digit : (word_bits + k) % word_bits ≡ k % word_bits = omega arith in
-      rw (place, digit))
-
-pub all_zero : (words : List ℕ) → ((i : ℕ) → get_or words i 0 < 2 ^ word_bits)
-    → list_all (λ word. eqb word 0) words ≡ not (some_below (word_bits * length words) (digits_of words))
-all_zero [] fits = refl
-all_zero (word ∷ words) fits =
-    let more : word_bits * length (word ∷ words) ≡ word_bits + word_bits * length words = omega arith in
-    let here = some_same word_bits _ _ (first_digit word words) ∙ some_digit word_bits word (fits 0) in
-    let behind = ap (some_below (word_bits * length words)) (digits_behind word words) in
-    ap (λ rest. eqb word 0 && rest) (all_zero words (λ i. fits (suc i)))
-    ∙ neither (eqb word 0) (some_below (word_bits * length words) (digits_of words))
-    ∙ sym (ap not (ap (λ n. some_below n (digits_of (word ∷ words))) more
-    ∙ some_parts word_bits (word_bits * length words) (digits_of (word ∷ words))
-    ∙ ap₂ (λ p q. p || q) here behind))
-  where
-    neither : (p q : Bool) → (p && not q) ≡ not (not p || q)
-    neither true q = refl
-    neither false q = refl
-
 module _ (words : List ℕ) (k : ℕ) (fits : get_or words k 0 < 2 ^ word_bits) where
   some_here : some_below word_bits (from (word_bits * k) (digits_of words)) ≡ not (eqb (get_or words k 0) 0)
   some_here = some_same word_bits _ _ (digit_at words k) ∙ some_digit word_bits (get_or words k 0) fits
-
-  -- THE LEAST DIGIT is in the first word that has one.
-  pub least_here : (n : ℕ) → k < n → some_below (word_bits * k) (digits_of words) ≡ false → (get_or words k 0 ≡ 0 → ⊥)
-      → least (word_bits * n) (digits_of words) ≡ word_bits * k + count_trailing_zeros word_bits (get_or words k 0)
-  least_here n l none some =
-      let rest = word_bits * (n - suc k) in
-      let split : word_bits * n ≡ word_bits * k + (word_bits + rest) = omega arith in
-      let here = from (word_bits * k) (digits_of words) in
-      let there : some_below word_bits here ≡ true = some_here ∙ ap not (ne_eqb (get_or words k 0) 0 some) in
-      ap (λ m. least m (digits_of words)) split
-      ∙ least_second (word_bits * k) (word_bits + rest) (digits_of words) none
-      ∙ ap (λ m. word_bits * k + m) (least_first word_bits rest here there ∙ least_same word_bits here _ (digit_at words k) ∙ sym (least_digit word_bits (get_or words k 0)))
 
 -- THE DIGITS OF THE FIRST k WORDS, all of them at once: `seen` is 0 exactly where there is none, and a word more is one step.
 abbrev pub Seen : List ℕ → ℕ → ℕ → Type 0
@@ -167,3 +119,64 @@ seen_more words k fits seen so_far =
     ∙ some_parts (word_bits * k) word_bits (digits_of words)
     ∙ ap₂ (λ p q. p || q) so_far (some_here words k fits)
     ∙ either_seen seen (get_or words k 0)
+
+both_zero : (a b : ℕ) → (eqb a 0 && eqb b 0) ≡ eqb (bit_or a b) 0
+both_zero a b = neither (eqb a 0) (eqb b 0) ∙ ap not (either_seen a b) ∙ not-not (eqb (bit_or a b) 0)
+  where
+    neither : (p q : Bool) → (p && q) ≡ not (not p || not q)
+    neither true q = sym (not-not q)
+    neither false q = refl
+
+pub seen_all : (words : List ℕ) (k seen : ℕ) → Seen words k seen → eqb seen 0 ≡ not (some_below (word_bits * k) (digits_of words))
+seen_all words k seen so_far = sym (not-not (eqb seen 0)) ∙ ap not (sym so_far)
+
+-- NO DIGIT: none is in the first k words where all of them are 0, and none in any where each is tested to be 0; both word after word.
+pub none_before : (words : List ℕ) (k : ℕ) → ((i : ℕ) → i < k → get_or words i 0 ≡ 0) → some_below (word_bits * k) (digits_of words) ≡ false
+none_before words zero zeros = refl
+none_before words (suc k) zeros =
+    let zero_here = zeros k (omega arith) in
+    ap (λ n. some_below (word_bits * n) (digits_of words)) (sym (add-one k))
+    ∙ seen_more words k (omega (arith, zero_here)) 0 (none_before words k (λ i l. zeros i (omega arith)))
+    ∙ ap (λ x. not (eqb x 0)) (or_zero_l (get_or words k 0) ∙ zero_here)
+
+module _ (words : List ℕ) (fits : (i : ℕ) → get_or words i 0 < 2 ^ word_bits) where
+  first_words : ℕ → ℕ
+  first_words zero = 0
+  first_words (suc k) = bit_or (first_words k) (get_or words k 0)
+
+  seen_so : (k : ℕ) → Seen words k (first_words k)
+  unfolding first_words
+  seen_so zero = refl
+  seen_so (suc k) =
+      ap (λ n. some_below (word_bits * n) (digits_of words)) (sym (add-one k)) ∙ seen_more words k (fits k) (first_words k) (seen_so k)
+
+  abbrev is_zero : ℕ → Bool
+  is_zero word = eqb word 0
+
+  each_tested : (k : ℕ) → k ≤ length words → list_all is_zero (take k words) ≡ is_zero (first_words k)
+  unfolding first_words
+  each_tested zero l = refl
+  each_tested (suc k) l =
+      ap (λ n. list_all is_zero (take n words)) (sym (add-one k))
+      ∙ list_all_more is_zero words k 0 (omega arith)
+      ∙ ap (λ q. q && is_zero (get_or words k 0)) (each_tested k (omega arith))
+      ∙ both_zero (first_words k) (get_or words k 0)
+
+  pub all_zero : list_all (λ word. eqb word 0) words ≡ not (some_below (word_bits * length words) (digits_of words))
+  all_zero =
+      ap (list_all is_zero) (sym (take-length words))
+      ∙ each_tested (length words) (omega arith)
+      ∙ seen_all words (length words) (first_words (length words)) (seen_so (length words))
+
+module _ (words : List ℕ) (k : ℕ) (fits : get_or words k 0 < 2 ^ word_bits) where
+  -- THE LEAST DIGIT is in the first word that has one.
+  pub least_here : (n : ℕ) → k < n → some_below (word_bits * k) (digits_of words) ≡ false → (get_or words k 0 ≡ 0 → ⊥)
+      → least (word_bits * n) (digits_of words) ≡ word_bits * k + count_trailing_zeros word_bits (get_or words k 0)
+  least_here n l none some =
+      let rest = word_bits * (n - suc k) in
+      let split : word_bits * n ≡ word_bits * k + (word_bits + rest) = omega arith in
+      let here = from (word_bits * k) (digits_of words) in
+      let there : some_below word_bits here ≡ true = some_here words k fits ∙ ap not (ne_eqb (get_or words k 0) 0 some) in
+      ap (λ m. least m (digits_of words)) split
+      ∙ least_second (word_bits * k) (word_bits + rest) (digits_of words) none
+      ∙ ap (λ m. word_bits * k + m) (least_first word_bits rest here there ∙ least_same word_bits here _ (digit_at words k) ∙ sym (least_digit word_bits (get_or words k 0)))

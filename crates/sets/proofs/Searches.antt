@@ -41,11 +41,6 @@ least_second (suc m) n x none =
       | inr e ↦ rw e (ap suc (least_second m n (from_next x) (rw e at none)) ∙ sym (suc-add m _))
     ])
 
--- nothing is found in a set without a hop
-pub some_nowhere : (n : ℕ) → some_below n (λ k. false) ≡ false
-some_nowhere zero = refl
-some_nowhere (suc n) = some_nowhere n
-
 -- EQUAL BELOW THE BOUND is equal to a search.
 pub some_same : (n : ℕ) (x y : Hops) → ((k : ℕ) → k < n → x k ≡ y k) → some_below n x ≡ some_below n y
 some_same zero x y same = refl

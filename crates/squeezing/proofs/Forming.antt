@@ -170,9 +170,9 @@ form_full_at m a b p left d e r keeps full here is =
 abbrev pub met : HopSet → HopSet → Bool
 met a b = some_below hop_bound (common (members a) (members b))
 
-pub split_is : (met : Bool) {told : Bool} {k : ℕ} → told ≡ not met → k ≡ bool_byte told → k ≡ cond met 0 1
-split_is true e is = is ∙ ap bool_byte e
-split_is false e is = is ∙ ap bool_byte e
+pub split_is : (met : Bool) {told said : Bool} {k : ℕ} → told ≡ not met → k ≡ bool_byte said → said ≡ told → k ≡ cond met 0 1
+split_is true e is same = is ∙ ap bool_byte (same ∙ e)
+split_is false e is same = is ∙ ap bool_byte (same ∙ e)
 
 -- the splits of a string are its children's, and one more where their sets are apart
 node_splits : (N w : ℕ) (F : Leaves) (x₀ x₁ : Hops) (k₀ k₁ x : ℕ) → x₀ ≡ set_of N w (half false F) → x₁ ≡ set_of N w (half true F)

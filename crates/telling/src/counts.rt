@@ -7,5 +7,8 @@ pub fn prefix_len(asked: isize, list: &[u8]) -> usize
     ensures in_bounds { IsPrefixLen result list.now }
     ensures value { result ≡ clamp_len asked (length list.now) }
 {
-    usize::try_from(asked).unwrap_or(0).min(list.len())
+    match usize::try_from(asked) {
+        Ok(asked) => asked.min(list.len()),
+        Err(_) => 0,
+    }
 }

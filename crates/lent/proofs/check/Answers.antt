@@ -15,7 +15,7 @@ returns-then-lo-count c =
 
 pub returns-then-count-eq0 : goal.returns-then-count-eq0
 returns-then-count-eq0 c =
-    fault_slices _ (λ g. elim c.then-count-eq0.either [ inl none ↦ g.some_slot none | inr more ↦ absurd (omega (arith, g.few, more.1)) ])
+    fault_slices _ (λ g. elim c.then-count-eq0.either [ inl none ↦ absurd (omega (arith, g.some_slot, none)) | inr more ↦ absurd (omega (arith, g.few, more.1)) ])
 
 -- what the tests of rule 1 let through
 good : (c : Else-count-gt-MOST_SLOTS) → GoodLent (memory_in c.args.memory.now)
@@ -23,7 +23,7 @@ good c = record {
   los = c.if-lo-count.false;
   his = c.if-hi-count.false;
   hops = c.if-hop-count.false;
-  some_slot = c.if-count-eq0.false;
+  some_slot = λ none. absurd (omega (arith, none, c.if-count-eq0.false));
   few = c.if-count-gt-MOST_SLOTS.false;
 }
 

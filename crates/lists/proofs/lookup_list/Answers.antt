@@ -1,5 +1,5 @@
 -- At each place the record there is a fault, the lookup's answer, or one route more (Scan).
-use Rattle.std.proofs.Common.{refl, ap}
+use Rattle.std.proofs.Common.{refl, ap, arith}
 use Rattle.std.proofs.lemmas.Result.{err_from_is_err_and}
 use Rattle.records.specs.Promise.{InBounds}
 use Rattle.records.proofs.Promise.{reads_as}
@@ -21,10 +21,10 @@ better-best-requires c = record { proper = (reads_as c.in-Ok-Announces.field-0-i
 
 pub returns-in-Ok-Withdraws : goal.returns-in-Ok-Withdraws
 returns-in-Ok-Withdraws c =
-    rw c.at.ensures (withdrawal_here c.loop-place.invariant c.loop-place-test.true refl (reads_as c.in-Ok-Withdraws.field-0-is c.in-Ok-Withdraws.ensures))
+    rw c.at.ensures (withdrawal_here c.loop-place.invariant c.loop-place-test.true refl (reads_as c.in-Ok-Withdraws.field-0-is c.in-Ok-Withdraws.ensures) (omega arith))
 
 pub returns-in-Err : goal.returns-in-Err
-returns-in-Err c = rw c.at-in-Err.ensures (faulty_here c.loop-place.invariant c.loop-place-test.true refl c.in-Err.ensures)
+returns-in-Err c = rw c.at-in-Err.ensures (faulty_here c.loop-place.invariant c.loop-place-test.true refl c.in-Err.ensures (omega arith))
 
 pub loop-place-preserved : goal.loop-place-preserved
 loop-place-preserved c =
